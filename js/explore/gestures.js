@@ -4,7 +4,8 @@ const STILL = 5; // pixels that a finger or a pointer may move in a click
 const STEP = 80; // pixels that an arrow key moves
 const ARROWS = { ArrowLeft: [1, 0], ArrowRight: [-1, 0], ArrowUp: [0, 1], ArrowDown: [0, -1] };
 
-/** Watches a canvas. `hand` is told: move(dx, dy), zoom(factor, x, y), point(x, y), leave(), choose(x, y), home(), key(key).
+/** Watches a canvas. `hand` is told: move(dx, dy), zoom(factor, x, y), point(x, y), leave(), choose(x, y),
+ * home(), key(key).
  * Places are in pixels from the middle of the canvas, y down. */
 export class Gestures {
   constructor(canvas, hand) {

@@ -15,7 +15,8 @@ export class LookCard {
   constructor(app) {
     this.app = app;
     const choose = (name, chosen) =>
-      document.querySelectorAll(`input[name="${name}"]`).forEach((radio) => radio.addEventListener("change", () => chosen(radio.value)));
+      document.querySelectorAll(`input[name="${name}"]`)
+          .forEach((radio) => radio.addEventListener("change", () => chosen(radio.value)));
     choose("by", (by) => app.change({ by }));
     choose("whole", (value) => app.change({ isWhole: value === "whole" }));
     byId("lines").addEventListener("change", () => app.change({ lines: byId("lines").checked }));
@@ -24,8 +25,11 @@ export class LookCard {
   }
 
   palette({ name, title, kinds }) {
-    const strip = element("span", { class: "strip" }, ...kinds.slice(0, 6).map((colour) => element("i", { style: `background:${colour}` })));
-    const radio = element("input", { type: "radio", name: "palette", value: name, onchange: () => this.app.change({ palette: name, own: new Map() }) });
+    const strip = element("span", { class: "strip" },
+        ...kinds.slice(0, 6).map((colour) => element("i", { style: `background:${colour}` })));
+    const radio = element("input",
+        { type: "radio", name: "palette", value: name,
+        onchange: () => this.app.change({ palette: name, own: new Map() }) });
     return element("label", { class: "palette" }, radio, element("span", {}, strip, title));
   }
 
@@ -49,7 +53,8 @@ export class LookCard {
 
   /** A well for each colour. Those that are there stay, so that one in use isn't closed. */
   showWells(by) {
-    const { state, told } = this.app, classes = classesOf(state, told).slice(0, MOST_WELLS), colours = coloursOf(state, told);
+    const { state, told } = this.app, classes = classesOf(state, told).slice(0, MOST_WELLS),
+        colours = coloursOf(state, told);
     const key = `${by} ${classes}`, wells = byId("wells");
     if (wells.dataset.key !== key) wells.replaceChildren(...classes.map((number) => this.well(by, number)));
     wells.dataset.key = key;

@@ -1,4 +1,5 @@
-// The page: it keeps the state, asks the workers, and tells the picture, the marks and the cards what has changed.
+// The page: it keeps the state, asks the workers, and tells the picture, the marks and the cards what has
+// changed.
 import { Cards } from "./cards.js";
 import { tilingNamed } from "./catalogue.js";
 import { Gestures } from "./gestures.js";
@@ -35,14 +36,16 @@ class Explorer {
     this.tilings = new Map(); // promises of that, by name
     this.files = new Map(); // the text of each rule file that was opened, for addresses
     this.workers = startWorkers();
-    this.screen = new Screen(byId("picture"), state, this.workers, () => (this.isKnown ? this.lookNow() : null), (refusal) => this.refuse(refusal));
+    this.screen = new Screen(byId("picture"), state, this.workers,
+        () => (this.isKnown ? this.lookNow() : null), (refusal) => this.refuse(refusal));
     this.marks = new Marks(byId("tiling"), state);
     this.tileCard = new TileCard(this);
     this.look = new LookCard(this);
     this.places = new PlacesCard(this);
     this.save = new SaveCard(this);
     this.menu = new TilingsCard(this, (name) => this.chooseTiling(name), (file) => this.openFile(file));
-    this.cards = new Cards((name) => ({ tilings: this.menu, look: this.look, places: this.places, save: this.save })[name]?.show());
+    this.cards = new Cards((name) =>
+        ({ tilings: this.menu, look: this.look, places: this.places, save: this.save })[name]?.show());
     this.gestures = new Gestures(byId("tiling"), this);
     this.listen();
   }
@@ -57,22 +60,25 @@ class Explorer {
     addEventListener("drop", (event) => this.dropped(event));
     new ResizeObserver(() => this.changed()).observe(byId("stage"));
     const { classList } = byId("invitation"), canvas = byId("tiling");
-    for (const name of ["pointerdown", "wheel", "keydown"]) canvas.addEventListener(name, () => classList.add("gone"), { once: true });
+    for (const name of ["pointerdown", "wheel", "keydown"]) canvas.addEventListener(
+        name, () => classList.add("gone"), { once: true });
     canvas.addEventListener("focus", () => this.cross(canvas.matches(":focus-visible")));
     canvas.addEventListener("blur", () => this.cross(false));
   }
 
-  // ---- what is shown ------------------------------------------------------------------------------------------------
+  // ---- what is shown -----------------------------------------------------------------------------
   /** How the worker draws the state. */
   lookNow() {
     const { tiling, seed, base, isWhole, lines, level, palette } = state, by = chosenBy(state, this.told);
     const isAsked = isWhole && this.told.hasHalves;
-    return { tiling, seed: seedOf(seed), base, isWhole: isAsked, by, colours: this.coloursNow(), lines, level, line: paletteNamed(palette).line };
+    return { tiling, seed: seedOf(seed), base, isWhole: isAsked, by, colours: this.coloursNow(), lines,
+        level, line: paletteNamed(palette).line };
   }
 
   /** Whether all is known that the look needs. */
   get isKnown() {
-    return Boolean(this.told) && this.told.name === state.tiling && (state.by !== "star" || this.told.classes[state.isWhole].star > 0);
+    return Boolean(this.told) && this.told.name === state.tiling
+        && (state.by !== "star" || this.told.classes[state.isWhole].star > 0);
   }
 
   coloursNow() {
@@ -92,7 +98,8 @@ class Explorer {
   /** The view as a part to paint, `times` as large as on the screen. */
   partNow(times) {
     const { at, x, y, scale } = state, { ratio } = this.screen, [wide, high] = this.size, by = times * ratio;
-    return { at, left: x - wide / 2 / scale, top: y + high / 2 / scale, wide: Math.round(wide * by), high: Math.round(high * by), scale: scale * by, ratio: by };
+    return { at, left: x - wide / 2 / scale, top: y + high / 2 / scale, wide: Math.round(wide * by),
+        high: Math.round(high * by), scale: scale * by, ratio: by };
   }
 
   /** What a command calls the rule, and the file that it reads. */
@@ -102,7 +109,8 @@ class Explorer {
   }
 
   commandNow() {
-    return this.ask("command", { look: this.lookNow(), view: { ...this.viewNow(), file: this.ruleWords().file } });
+    return this.ask("command", { look: this.lookNow(),
+        view: { ...this.viewNow(), file: this.ruleWords().file } });
   }
 
   /** Asks the engine; a refusal is told to the reader, and the answer is null. */
@@ -120,12 +128,13 @@ class Explorer {
     this.cards.fault("This can’t be shown", words, refusal.line ?? "");
   }
 
-  // ---- changes ------------------------------------------------------------------------------------------------------
+  // ---- changes -----------------------------------------------------------------------------------
   /** Changes a part of the state that isn't the place or the scale alone. */
   async change(values) {
     const isOther = ["tiling", "seed", "base", "isWhole", "at"].some((name) => name in values);
     Object.assign(state, values);
     if (isOther) this.forget();
+    if (!("tiling" in values)) byId("fault").hidden = true;
     if (state.by === "star") await this.countStars();
     state.scale = this.within(state.scale);
     this.look.show();
@@ -136,7 +145,8 @@ class Explorer {
   /** Stars are counted once, when colours are by them. */
   async countStars() {
     const classes = this.told.classes[state.isWhole];
-    classes.star ||= await this.ask("starCount", { look: { tiling: state.tiling, isWhole: state.isWhole && this.told.hasHalves } });
+    classes.star ||= await this.ask(
+        "starCount", { look: { tiling: state.tiling, isWhole: state.isWhole && this.told.hasHalves } });
   }
 
   /** The picture has to be drawn again. */
@@ -162,8 +172,11 @@ class Explorer {
   }
 
   async recall() {
+    if (!window.OffscreenCanvas) return this.cards.fault(
+        "This browser is too old", "The page needs one from 2023 or later.");
     read(location.hash.slice(1));
-    if (state.file && !(await this.openBytes(state.tiling, unpacked(state.file)))) Object.assign(state, { tiling: "penrose_p3", file: "" });
+    if (state.file && !(await this.openBytes(state.tiling, unpacked(state.file)))) Object.assign(
+        state, { tiling: "penrose_p3", file: "" });
     await this.useTiling();
   }
 
@@ -173,8 +186,12 @@ class Explorer {
     byId("title-name").textContent = title;
     byId("title-note").textContent = note;
     document.title = `${title} – tilings to explore`;
-    this.told = await this.open(state.tiling);
-    this.change({ tiling: state.tiling });
+    try {
+      this.told = await this.open(state.tiling);
+      await this.change({ tiling: state.tiling });
+    } catch (fault) {
+      this.refuse(fault);
+    }
   }
 
   open(name) {
@@ -190,7 +207,7 @@ class Explorer {
     if (matchMedia("(max-width: 720px)").matches) this.cards.close(true);
   }
 
-  // ---- the view -----------------------------------------------------------------------------------------------------
+  // ---- the view ----------------------------------------------------------------------------------
   /** A scale at which a view has not too many tiles. */
   within(scale) {
     if (!this.told) return scale;
@@ -234,7 +251,7 @@ class Explorer {
     this.marks.refresh();
   }
 
-  // ---- tiles --------------------------------------------------------------------------------------------------------
+  // ---- tiles -------------------------------------------------------------------------------------
   placeOf(x, y) {
     return { at: state.at, x: state.x + x / state.scale, y: state.y - y / state.scale };
   }
@@ -277,9 +294,11 @@ class Explorer {
     if (this.cards.open && matchMedia("(max-width: 720px)").matches) return this.cards.close(false);
     const where = this.placeOf(x, y), tile = await this.tileAt(where);
     if (!tile) return;
-    const [cornerX, cornerY] = tile.outline[tile.corner], far = Math.hypot(cornerX - where.x, cornerY - where.y) * state.scale;
+    const [cornerX, cornerY] = tile.outline[tile.corner],
+        far = Math.hypot(cornerX - where.x, cornerY - where.y) * state.scale;
     tile.isNearCorner = far < Math.min(NEAR, 0.3 * state.scale);
-    const isSame = this.marks.kept?.name === tile.name && this.marks.kept.isNearCorner === tile.isNearCorner && this.marks.kept.corner === tile.corner;
+    const isSame = this.marks.kept?.name === tile.name && this.marks.kept.isNearCorner === tile.isNearCorner
+        && this.marks.kept.corner === tile.corner;
     this.keep(isSame ? null : { ...tile, where });
   }
 
@@ -303,7 +322,9 @@ class Explorer {
   /** Shows the supertile of the tile that is kept, if a level is chosen. */
   async showSupertile() {
     const { kept } = this.marks;
-    this.marks.supertile = kept && state.level ? await this.workers.ask("supertileAt", { look: this.lookNow(), where: kept.where }).catch(() => []) : [];
+    this.marks.supertile = kept && state.level
+        ? await this.workers.ask("supertileAt", { look: this.lookNow(), where: kept.where }).catch(() => [])
+        : [];
     this.marks.refresh();
   }
 
@@ -320,7 +341,7 @@ class Explorer {
     if (tile) this.keep({ ...tile, where, isNearCorner: true });
   }
 
-  // ---- rule files ---------------------------------------------------------------------------------------------------
+  // ---- rule files --------------------------------------------------------------------------------
   dragged(event, isOver) {
     event.preventDefault();
     byId("drop").hidden = !isOver;
@@ -335,15 +356,18 @@ class Explorer {
   async openFile(file) {
     if (!file) return;
     const name = fileName(file.name);
-    if (file.size > MOST_FILE) this.cards.fault("This rule file is refused", FAULTS.RuleTooLong, "3 RuleTooLong");
-    else if (await this.openBytes(name, new Uint8Array(await file.arrayBuffer()))) await this.chooseTiling(name);
+    if (file.size > MOST_FILE) this.cards.fault(
+        "This rule file is refused", FAULTS.RuleTooLong, "3 RuleTooLong");
+    else if (await this.openBytes(name, new Uint8Array(await file.arrayBuffer()))) await this.chooseTiling(
+        name);
   }
 
   /** Opens a rule file, or shows its fault; the answer is whether it is open. */
   async openBytes(name, bytes) {
     const { told, refused } = await this.workers.openFile(name, bytes);
     if (refused) {
-      this.cards.fault("This rule file is refused", refused.note ?? refused.message, refused.line, refused.picture);
+      this.cards.fault("This rule file is refused", refused.note ?? refused.message, refused.line,
+          refused.picture);
       return false;
     }
     byId("fault").hidden = true;

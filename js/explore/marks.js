@@ -1,4 +1,5 @@
-// What is drawn over the picture: the tile under the pointer, the tile that is kept, its star and supertile, and the
+// What is drawn over the picture: the tile under the pointer, the tile that is kept, its star and supertile,
+// and the
 // middle of the view while keys move it.
 
 const LIGHT = "#ffffff", DARK = "#10181d", ACCENT = "#f4b860";
@@ -28,7 +29,8 @@ export class Marks {
     pen.setTransform(ratio, 0, 0, ratio, 0, 0);
     pen.lineJoin = pen.lineCap = "round";
     if (this.supertile.length) this.dim(this.supertile);
-    if (this.kept?.star && this.kept.isNearCorner) this.kept.star.tiles.forEach(({ outline }) => this.outline(outline, 1.5, LIGHT, 4));
+    if (this.kept?.star && this.kept.isNearCorner) this.kept.star.tiles.forEach(
+        ({ outline }) => this.outline(outline, 1.5, LIGHT, 4));
     if (this.pointed) this.outline(this.pointed.outline, 2, DARK, 5);
     if (this.kept) this.keptTile(this.kept);
     if (this.hasCross) this.cross();
@@ -37,7 +39,8 @@ export class Marks {
   /** From lengths to pixels. */
   place([x, y]) {
     const { state, canvas } = this;
-    return [canvas.clientWidth / 2 + (x - state.x) * state.scale, canvas.clientHeight / 2 - (y - state.y) * state.scale];
+    return [canvas.clientWidth / 2 + (x - state.x) * state.scale,
+        canvas.clientHeight / 2 - (y - state.y) * state.scale];
   }
 
   trace(polygon) {

@@ -15,7 +15,8 @@ export function element(tag, attributes = {}, ...inside) {
 
 /** A drawing of polygons in lengths, y up, in a box around a middle: [{ outline, colour }]. */
 export function drawing(polygons, [x, y], label) {
-  const far = Math.max(...polygons.flatMap(({ outline }) => outline.map(([a, b]) => Math.hypot(a - x, b - y)))) * 1.04;
+  const far = Math.max(...polygons.flatMap(
+      ({ outline }) => outline.map(([a, b]) => Math.hypot(a - x, b - y)))) * 1.04;
   const space = "http://www.w3.org/2000/svg", svg = document.createElementNS(space, "svg");
   svg.setAttribute("viewBox", `${-far} ${-far} ${2 * far} ${2 * far}`);
   svg.setAttribute("role", "img");
@@ -66,4 +67,5 @@ export async function copyText(text, what) {
   say(`${what} copied`);
 }
 
-export const withSign = (count, one, many = `${one}s`) => `${count.toLocaleString("en")} ${count === 1 ? one : many}`;
+export const withSign = (count, one, many = `${one}s`) =>
+    `${count.toLocaleString("en")} ${count === 1 ? one : many}`;

@@ -1,19 +1,28 @@
 // Colours of tiles. Those of `lake` are the colours that the pictures of the package have.
 const LAKE_KINDS =
-  "#1f5f7a #8ecae6 #f2e9d8 #3a9a9c #f4b860 #8e3b5e #d9694a #6b8e4e #c9a9d0 #2b3a55 #b7d3a8 #e7a1a8 #7a5a3a #9aa5ad #5d5aa8 #c8b23c";
+  "#1f5f7a #8ecae6 #f2e9d8 #3a9a9c #f4b860 #8e3b5e #d9694a #6b8e4e " +
+  "#c9a9d0 #2b3a55 #b7d3a8 #e7a1a8 #7a5a3a #9aa5ad #5d5aa8 #c8b23c";
 const LAKE_STEPS = "#3a6378 #2a7f86 #2a9d8f #8ab17d #babb74 #e9c46a #efb366 #f4a261 #ee8959 #e76f51";
 const list = (text) => text.split(" ");
 
-/** `kinds` are for what has no order, `steps` for turns and children; without steps they are made of the kinds. */
+/** `kinds` are for what has no order, `steps` for turns and children; without steps they are made of the
+ * kinds. */
 export const PALETTES = [
   { name: "lake", title: "Lake", kinds: list(LAKE_KINDS), steps: list(LAKE_STEPS), line: "#22303a" },
-  { name: "day", title: "Day", kinds: list("#4a7fb5 #ecc06a #8fae5d #b5536b #8d78b8 #e3885a"), line: "#26303c" },
-  { name: "earth", title: "Earth", kinds: list("#e9c46a #b5651d #7a8f52 #f1e3c6 #8c4a3c #c9a27c"), line: "#3a2a1e" },
-  { name: "rose", title: "Rose", kinds: list("#8e3b5e #f2b8c6 #f7e7dc #d9708f #5b4a78 #c9b6d8"), line: "#3b2033" },
-  { name: "stone", title: "Stone", kinds: list("#e4ddd0 #6f7f80 #a9b4a6 #c9b79c #8a7a6a #d5d9d2"), line: "#39403f" },
-  { name: "night", title: "Night", kinds: list("#16324a #2f6d8c #0f4c5c #73a9c2 #3d3b6b #8d8bc4"), line: "#0a141d" },
-  { name: "ink", title: "Ink", kinds: list("#f6f6f3 #3b4045 #b9bec2 #767d83 #dfe2e4 #969da3"), line: "#111417" },
-  { name: "clear", title: "Clear", kinds: list("#0072b2 #e69f00 #56b4e9 #009e73 #f0e442 #d55e00 #cc79a7 #999999"), line: "#1a1a1a" },
+  { name: "day", title: "Day", kinds: list("#4a7fb5 #ecc06a #8fae5d #b5536b #8d78b8 #e3885a"),
+      line: "#26303c" },
+  { name: "earth", title: "Earth", kinds: list("#e9c46a #b5651d #7a8f52 #f1e3c6 #8c4a3c #c9a27c"),
+      line: "#3a2a1e" },
+  { name: "rose", title: "Rose", kinds: list("#8e3b5e #f2b8c6 #f7e7dc #d9708f #5b4a78 #c9b6d8"),
+      line: "#3b2033" },
+  { name: "stone", title: "Stone", kinds: list("#e4ddd0 #6f7f80 #a9b4a6 #c9b79c #8a7a6a #d5d9d2"),
+      line: "#39403f" },
+  { name: "night", title: "Night", kinds: list("#16324a #2f6d8c #0f4c5c #73a9c2 #3d3b6b #8d8bc4"),
+      line: "#0a141d" },
+  { name: "ink", title: "Ink", kinds: list("#f6f6f3 #3b4045 #b9bec2 #767d83 #dfe2e4 #969da3"),
+      line: "#111417" },
+  { name: "clear", title: "Clear",
+      kinds: list("#0072b2 #e69f00 #56b4e9 #009e73 #f0e442 #d55e00 #cc79a7 #999999"), line: "#1a1a1a" },
 ];
 
 export const paletteNamed = (name) => PALETTES.find((palette) => palette.name === name) ?? PALETTES[0];
@@ -39,17 +48,21 @@ export const chosenBy = (state, told) => state.by || told.classes[state.isWhole]
 
 /** The colour of each class of tiles, of the palette or the reader's own. */
 export function coloursOf(state, told) {
-  const by = chosenBy(state, told), classes = told.classes[state.isWhole], palette = paletteNamed(state.palette);
+  const by = chosenBy(state, told), classes = told.classes[state.isWhole],
+      palette = paletteNamed(state.palette);
   const found = paletteColours(palette, by, classes);
-  for (const [key, colour] of state.own) if (key[0] === by[0] && found[key.slice(1)]) found[key.slice(1)] = colour;
+  for (const [key, colour] of state.own) if (key[0] === by[0] && found[key.slice(1)]) found[key.slice(1)] =
+      colour;
   return found;
 }
 
 function paletteColours(palette, by, { kinds, ...counts }) {
   if (by === "turn" || by === "child") return spread(palette.steps ?? stepsOf(palette.kinds), counts[by]);
-  if (by === "star") return Array.from({ length: counts.star }, (_, i) => palette.kinds[i % palette.kinds.length]);
+  if (by === "star") return Array.from(
+      { length: counts.star }, (_, i) => palette.kinds[i % palette.kinds.length]);
   const order = [...kinds, ...[...Array(counts.kind).keys()].filter((kind) => !kinds.includes(kind))];
-  return Array.from({ length: counts.kind }, (_, kind) => palette.kinds[order.indexOf(kind) % palette.kinds.length]);
+  return Array.from({ length: counts.kind },
+      (_, kind) => palette.kinds[order.indexOf(kind) % palette.kinds.length]);
 }
 
 /** The classes whose colours can be chosen: of kinds those that tiles have. */

@@ -68,17 +68,21 @@ export class PlacesCard {
   }
 
   starButton(star, number) {
-    const { app } = this, colours = app.coloursNow(), share = `${(100 * star.share).toFixed(1)} %`, words = this.wordsOf(star);
-    const picture = drawing(star.tiles.map((it) => ({ ...it, colour: colours[it.class % colours.length] })), star.place, "");
+    const { app } = this, colours = app.coloursNow(), share = `${(100 * star.share).toFixed(1)} %`,
+        words = this.wordsOf(star);
+    const picture = drawing(star.tiles.map((it) => ({ ...it, colour: colours[it.class % colours.length] })),
+        star.place, "");
     picture.setAttribute("aria-hidden", "true");
-    return element("button", { "aria-label": `Star ${number}: ${words}, ${share}`, title: words, onclick: () => app.goToStar(star) }, picture, share);
+    return element("button", { "aria-label": `Star ${number}: ${words}, ${share}`, title: words,
+        onclick: () => app.goToStar(star) }, picture, share);
   }
 
   /** Such as "5 tiles: 5 × thick rhomb". */
   wordsOf({ tiles }) {
     const counts = new Map(), { state } = this.app;
     for (const { kind } of tiles) counts.set(kind, (counts.get(kind) ?? 0) + 1);
-    const parts = [...counts].map(([kind, count]) => `${count} × ${tileName(state.tiling, kind, state.isWhole).toLowerCase()}`);
+    const parts = [...counts].map(
+        ([kind, count]) => `${count} × ${tileName(state.tiling, kind, state.isWhole).toLowerCase()}`);
     return `${withSign(tiles.length, "tile")}: ${parts.join(", ")}`;
   }
 

@@ -3,7 +3,7 @@ import { tilingNamed } from "./catalogue.js";
 import { byId, copyText, saveFile, say } from "./page.js";
 import { written } from "./state.js";
 
-const MOST_SIDE = 12000; // pixels of a PNG
+const MOST_PIXELS = 64e6; // of a PNG
 
 export class SaveCard {
   constructor(app) {
@@ -11,7 +11,8 @@ export class SaveCard {
     byId("save-svg").addEventListener("click", () => this.svg());
     byId("save-png").addEventListener("click", () => this.png());
     byId("copy-command").addEventListener("click", () => this.copyCommand());
-    byId("copy-link").addEventListener("click", () => copyText(`${location.href.replace(/#.*$/, "")}#${written()}`, "Link"));
+    byId("copy-link").addEventListener(
+        "click", () => copyText(`${location.href.replace(/#.*$/, "")}#${written()}`, "Link"));
     byId("board-form").addEventListener("submit", (event) => {
       event.preventDefault();
       this.board();
@@ -28,28 +29,32 @@ export class SaveCard {
   }
 
   async svg() {
-    const { app } = this, view = app.viewNow(), { command } = await app.commandNow();
-    const title = tilingNamed(app.state.tiling).title;
+    const { app } = this, view = app.viewNow(), found = await app.commandNow();
+    const title = tilingNamed(app.state.tiling).title, command = found?.command ?? "";
     const text = await app.ask("svg", { look: app.lookNow(), view: { ...view, title, command } });
-    saveFile(`${this.name}.svg`, text, "image/svg+xml");
+    if (text) saveFile(`${this.name}.svg`, text, "image/svg+xml");
   }
 
   async png() {
     const { app } = this, part = app.partNow(Number(byId("png-size").value));
-    if (Math.max(part.wide, part.high) > MOST_SIDE) return say("This picture is too large. Choose a smaller size.");
-    saveFile(`${this.name}.png`, await app.ask("png", { look: app.lookNow(), part }));
+    if (part.wide * part.high > MOST_PIXELS) return say("This picture is too large. Choose a smaller size.");
+    const picture = await app.ask("png", { look: app.lookNow(), part });
+    if (picture) saveFile(`${this.name}.png`, picture);
   }
 
   async board() {
     const { app } = this, tiles = Number(byId("board-tiles").value);
-    if (!(Number.isInteger(tiles) && tiles >= 1 && tiles <= 50000)) return say("A board has 1 to 50,000 tiles.");
+    if (!(Number.isInteger(tiles) && tiles >= 1 && tiles <= 50000)) return say(
+        "A board has 1 to 50,000 tiles.");
     const { at, x, y } = app.state, where = { at, x, y, tiles };
-    saveFile(`${this.name}-board.json`, await app.ask("board", { look: app.lookNow(), where }), "application/json");
+    const made = await app.ask("board", { look: app.lookNow(), where });
+    if (made) saveFile(`${this.name}-board.json`, made, "application/json");
   }
 
   async copyCommand() {
-    const { command } = await this.app.commandNow();
-    byId("command").textContent = command;
-    copyText(command, "Command");
+    const found = await this.app.commandNow();
+    if (!found) return;
+    byId("command").textContent = found.command;
+    copyText(found.command, "Command");
   }
 }

@@ -1,5 +1,7 @@
-// The picture of the tiling, made of bitmaps that are kept. A layer is the plane at one scale, in blocks of pixels. A block
-// is painted once, by a worker; moving the view only copies blocks. While the view is zoomed the last layer is shown larger
+// The picture of the tiling, made of bitmaps that are kept. A layer is the plane at one scale, in blocks of
+// pixels. A block
+// is painted once, by a worker; moving the view only copies blocks. While the view is zoomed the last layer
+// is shown larger
 // or smaller, until the next one is ready.
 
 const BLOCK = 512; // pixels, about
@@ -27,7 +29,8 @@ class Layer {
   /** What a worker has to paint of a block. */
   partOf(name) {
     const [i, j] = name.split(",").map(Number), { at, scale, ratio, wide, high } = this;
-    return { at, scale, ratio, wide, high, left: this.left + (i * wide) / scale, top: this.top - (j * high) / scale };
+    return { at, scale, ratio, wide, high, left: this.left + (i * wide) / scale,
+        top: this.top - (j * high) / scale };
   }
 
   forget(names) {
@@ -78,7 +81,8 @@ export class Screen {
   }
 
   fit() {
-    const { canvas, ratio } = this, wide = Math.round(canvas.clientWidth * ratio), high = Math.round(canvas.clientHeight * ratio);
+    const { canvas, ratio } = this, wide = Math.round(canvas.clientWidth * ratio),
+        high = Math.round(canvas.clientHeight * ratio);
     if (canvas.width !== wide) canvas.width = wide;
     if (canvas.height !== high) canvas.height = high;
   }
@@ -87,18 +91,22 @@ export class Screen {
   choose() {
     const look = this.lookOf();
     if (!look) return;
-    const { at, scale } = this.state, { ratio } = this, place = `${look.tiling} ${look.seed} ${look.base} ${at}`;
+    const { at, scale } = this.state, { ratio } = this,
+        place = `${look.tiling} ${look.seed} ${look.base} ${at}`;
     const key = JSON.stringify([look, at, ratio]), { top } = this, isSame = top?.key === key;
     if (isSame && (top.scale === scale * ratio || this.isPainting(top))) return;
-    const kept = top?.place === place && [...top.blocks.values()].some(Boolean) ? top : this.under?.place === place ? this.under : null;
-    for (const layer of [top, this.under]) if (layer && layer !== kept) layer.forget([...layer.blocks.keys()]);
+    const kept = top?.place === place
+        && [...top.blocks.values()].some(Boolean) ? top : this.under?.place === place ? this.under : null;
+    for (const layer of [top, this.under]) if (layer && layer !== kept) layer.forget(
+        [...layer.blocks.keys()]);
     this.under = kept;
     this.top = this.newLayer(look, key, place);
   }
 
   newLayer(look, key, place) {
     const { at, x, y, scale } = this.state, { ratio, canvas } = this, pixels = scale * ratio;
-    const part = { at, ratio, scale: pixels, left: x - canvas.width / 2 / pixels, top: y + canvas.height / 2 / pixels };
+    const part = { at, ratio, scale: pixels, left: x - canvas.width / 2 / pixels,
+        top: y + canvas.height / 2 / pixels };
     const layer = new Layer(look, key, part, canvas.width, canvas.height);
     layer.place = place;
     layer.goal = layer.blocksIn({ left: 0, top: 0, right: canvas.width - 0.5, bottom: canvas.height - 0.5 });
@@ -113,7 +121,8 @@ export class Screen {
   /** The view in the pixels of a layer. */
   viewIn(layer) {
     const { x, y, scale } = this.state, { canvas, ratio } = this, k = layer.scale / (scale * ratio);
-    const left = (x - layer.left) * layer.scale - (canvas.width / 2) * k, top = (layer.top - y) * layer.scale - (canvas.height / 2) * k;
+    const left = (x - layer.left) * layer.scale - (canvas.width / 2) * k,
+        top = (layer.top - y) * layer.scale - (canvas.height / 2) * k;
     return { left, top, right: left + canvas.width * k, bottom: top + canvas.height * k, k };
   }
 
@@ -138,8 +147,10 @@ export class Screen {
     for (const name of layer.blocksIn(view)) {
       const bitmap = layer.blocks.get(name);
       if (!bitmap) continue;
-      const [i, j] = name.split(",").map(Number), left = spot(i, layer.wide, view.left), high = spot(j, layer.high, view.top);
-      pen.drawImage(bitmap, left, high, spot(i + 1, layer.wide, view.left) - left, spot(j + 1, layer.high, view.top) - high);
+      const [i, j] = name.split(",").map(Number), left = spot(i, layer.wide, view.left),
+          high = spot(j, layer.high, view.top);
+      pen.drawImage(bitmap, left, high, spot(i + 1, layer.wide, view.left) - left,
+          spot(j + 1, layer.high, view.top) - high);
     }
   }
 
@@ -148,7 +159,8 @@ export class Screen {
     return this.top.blocksIn(this.viewIn(this.top)).filter((name) => !this.top.blocks.get(name));
   }
 
-  /** The blocks to be painted next: those in view, and then those around it. While the scale changes, only those of the
+  /** The blocks to be painted next: those in view, and then those around it. While the scale changes, only
+   * those of the
    * view for which the layer was begun. */
   next() {
     const { top, state, ratio } = this, isFree = (name) => !top.blocks.has(name);
@@ -174,7 +186,8 @@ export class Screen {
     try {
       const { bitmap, tiles, spent } = await this.workers.paint(layer.look, layer.partOf(name));
       this.report.blocks++;
-      if ((layer === this.top || layer === this.under) && layer.blocks.has(name)) this.keep(layer, name, bitmap, tiles, spent);
+      if ((layer === this.top || layer === this.under) && layer.blocks.has(name)) this.keep(
+          layer, name, bitmap, tiles, spent);
       else bitmap.close();
     } catch (refusal) {
       if (layer === this.top && !layer.isRefused) this.refused(refusal);
@@ -192,7 +205,8 @@ export class Screen {
     if (this.isPainting(layer)) return;
     layer.isTold = true;
     const waited = performance.now() - layer.began;
-    Object.assign(this.report, { views: this.report.views + 1, tiles: layer.tiles, spent: layer.spent, waited });
+    Object.assign(this.report, { views: this.report.views + 1, tiles: layer.tiles, spent: layer.spent,
+        waited });
     this.report.first ??= performance.now(); // since the page began to load
     this.workers.grow();
   }
@@ -200,12 +214,14 @@ export class Screen {
   /** Lets blocks go that are far from the view. */
   forgetFar() {
     const { top } = this, near = new Set(top.blocksIn(this.viewIn(top), 3));
-    if (top.blocks.size > near.size) top.forget([...top.blocks].filter(([name, bitmap]) => bitmap && !near.has(name)).map(([name]) => name));
+    if (top.blocks.size > near.size) top.forget(
+        [...top.blocks].filter(([name, bitmap]) => bitmap && !near.has(name)).map(([name]) => name));
   }
 
   /** Whether all of the view is painted at its scale. */
   get isReady() {
-    return Boolean(this.top) && this.top.scale === this.state.scale * this.ratio && this.top.key === this.keyNow() && !this.missing().length;
+    return Boolean(this.top) && this.top.scale === this.state.scale * this.ratio
+        && this.top.key === this.keyNow() && !this.missing().length;
   }
 
   keyNow() {

@@ -40,15 +40,18 @@ export const seedOf = (text) => [Number(BigInt(text) & 0xffffffffn), Number(BigI
 export const fileName = (text) => text.replace(/[^\w.()+-]/g, "_").slice(0, 80) || "rule.toml";
 
 /** Bytes as a text for addresses, and back. */
-export const packed = (bytes) => btoa(String.fromCharCode(...bytes)).replaceAll("+", "-").replaceAll("/", "_").replace(/=+$/, "");
-export const unpacked = (text) => Uint8Array.from(atob(text.replaceAll("-", "+").replaceAll("_", "/")), (letter) => letter.charCodeAt(0));
+export const packed = (bytes) => btoa(String.fromCharCode(...bytes)).replaceAll("+", "-").replaceAll("/", "_")
+    .replace(/=+$/, "");
+export const unpacked = (text) =>
+    Uint8Array.from(atob(text.replaceAll("-", "+").replaceAll("_", "/")), (letter) => letter.charCodeAt(0));
 
 export const isAddress = (text) => /^\d{1,3}:(\d{1,3}\/\d{1,3}(,\d{1,3}\/\d{1,3}){0,63})?$/.test(text);
 
 /** The state as the part of the page's address after #. */
 export function written() {
   const { tiling, file, seed, base, at, x, y, scale, isWhole, by, palette, own, lines, level } = state;
-  const words = { tiling, seed, base, at: at.join(), x: x.toFixed(3), y: y.toFixed(3), scale: scale.toFixed(2) };
+  const words = { tiling, seed, base, at: at.join(), x: x.toFixed(3), y: y.toFixed(3),
+      scale: scale.toFixed(2) };
   if (!isWhole) words.tiles = "halves";
   if (by) words.by = by;
   if (palette !== "lake") words.palette = palette;
@@ -56,7 +59,8 @@ export function written() {
   if (!lines) words.lines = "none";
   if (level) words.level = level;
   if (file) words.file = file;
-  return new URLSearchParams(words).toString().replaceAll("%2C", ",").replaceAll("%3A", ":").replaceAll("%2F", "/");
+  return new URLSearchParams(words).toString().replaceAll("%2C", ",").replaceAll("%3A", ":")
+      .replaceAll("%2F", "/");
 }
 
 /** Takes from such a text what is right in it; the rest is as at the start. */
@@ -77,7 +81,8 @@ export function read(text) {
   state.isWhole = word("tiles") !== "halves";
   state.by = ["kind", "turn", "child", "star"].includes(word("by")) ? word("by") : "";
   state.palette = paletteNamed(word("palette")).name;
-  state.own = new Map([...word("own").matchAll(/([ktcs]\d{1,3})-([0-9a-f]{6})/g)].map(([, key, colour]) => [key, `#${colour}`]));
+  state.own = new Map([...word("own").matchAll(/([ktcs]\d{1,3})-([0-9a-f]{6})/g)].map(
+      ([, key, colour]) => [key, `#${colour}`]));
   state.lines = word("lines") !== "none";
   state.level = real("level", 0, 0, 8) | 0;
 }

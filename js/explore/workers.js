@@ -39,7 +39,8 @@ class Helper {
 }
 
 export class Workers {
-  /** `start` is what each worker begins with: the engine and the rules. There is one worker until `grow` adds more. */
+  /** `start` is what each worker begins with: the engine and the rules. There is one worker until `grow` adds
+   * more. */
   constructor(url, most, start) {
     Object.assign(this, { url, most, start });
     this.helpers = [];
@@ -68,7 +69,8 @@ export class Workers {
   }
 
   paint(look, part) {
-    const idle = this.helpers.reduce((best, helper) => (helper.waiting.size < best.waiting.size ? helper : best));
+    const idle = this.helpers.reduce(
+        (best, helper) => (helper.waiting.size < best.waiting.size ? helper : best));
     return idle.ask("paint", { look, part });
   }
 

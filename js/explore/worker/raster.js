@@ -9,12 +9,15 @@ const NUDGE = 1e-6;
 const FAR = 1 << 14; // added before a number is cut to an integer, so that this rounds down below 0 too
 const below = (value) => ((value + FAR) | 0) - FAR;
 
-/** The form of a kind of tiles, whatever their turn and size: corners, convex pieces to fill, and edges to draw. */
+/** The form of a kind of tiles, whatever their turn and size: corners, convex pieces to fill, and edges to
+ * draw. */
 export class Form {
-  /** A tile has one polygon, or two that are glued. Each has `corners`, [x, y, x, y, ..] in lengths and counterclockwise,
+  /** A tile has one polygon, or two that are glued. Each has `corners`, [x, y, x, y, ..] in lengths and
+   * counterclockwise,
    * and is seen whole from the first; along its edge `glued` there is no line. */
   constructor(polygons) {
-    const union = polygons.length === 2 ? unionOf(...polygons) : null, filled = union ? [union] : polygons;
+    this.outline = polygons.length === 2 ? joined(...polygons) : [...polygons[0].corners];
+    const filled = isConvex(this.outline) ? [{ corners: this.outline }] : polygons;
     this.corners = [...filled, ...polygons].flatMap(({ corners }) => [...corners]);
     this.pieces = [];
     this.edges = [];
@@ -25,25 +28,31 @@ export class Form {
     }
     for (const { corners, glued } of polygons) {
       const count = corners.length / 2;
-      for (let edge = 0; edge < count; edge++) if (edge !== glued) this.edges.push(first + edge, first + ((edge + 1) % count));
+      for (let edge = 0; edge < count; edge++) if (edge !== glued) this.edges.push(
+          first + edge, first + ((edge + 1) % count));
       first += count;
     }
   }
 }
 
-/** Two glued polygons as one, if that is convex; else null. */
-function unionOf(one, two) {
+/** The outline of two glued polygons. */
+function joined(one, two) {
   const around = ({ corners, glued }) => {
     const start = (2 * (glued + 1)) % corners.length;
     return [...corners.slice(start), ...corners.slice(0, start)].slice(0, -2);
   };
-  const corners = [...around(one), ...around(two)], count = corners.length / 2;
-  for (let i = 0; i < count; i++) if (!turnsLeft(corners, i, (i + 1) % count, (i + 2) % count)) return null;
-  return { corners };
+  return [...around(one), ...around(two)];
+}
+
+function isConvex(corners) {
+  const count = corners.length / 2;
+  for (let i = 0; i < count; i++) if (!turnsLeft(corners, i, (i + 1) % count, (i + 2) % count)) return false;
+  return true;
 }
 
 function turnsLeft(c, a, b, d) {
-  const [ux, uy, vx, vy] = [c[2 * b] - c[2 * a], c[2 * b + 1] - c[2 * a + 1], c[2 * d] - c[2 * b], c[2 * d + 1] - c[2 * b + 1]];
+  const [ux, uy, vx, vy] = [c[2 * b] - c[2 * a], c[2 * b + 1] - c[2 * a + 1], c[2 * d] - c[2 * b],
+      c[2 * d + 1] - c[2 * b + 1]];
   return ux * vy - uy * vx > -1e-9;
 }
 
@@ -54,7 +63,8 @@ function convexPieces(corners) {
   for (let i = 1; i + 1 < count; i++) {
     if (!hasArea(corners, i, i + 1)) continue;
     const last = piece && piece[piece.length - 1];
-    const grows = piece && last === i && turnsLeft(corners, piece[piece.length - 2], i, i + 1) && turnsLeft(corners, i + 1, 0, piece[1]);
+    const grows = piece && last === i && turnsLeft(corners, piece[piece.length - 2], i, i + 1)
+        && turnsLeft(corners, i + 1, 0, piece[1]);
     if (grows) piece.push(i + 1);
     else pieces.push((piece = [0, i, i + 1]));
   }
@@ -66,8 +76,9 @@ const hasArea = (c, a, b) =>
 
 /** A form that is turned by an angle, in pixels, y down. */
 export class Shape {
-  constructor({ corners, pieces, edges }, angle, scale) {
+  constructor({ outline, corners, pieces, edges }, angle, scale) {
     const places = turned(corners, angle, scale);
+    this.outline = turned(outline, angle, scale);
     this.pieces = pieces.map((piece) => sidesOf(places, piece));
     this.lines = linesOf(places, edges);
     this.box = boxOf(places);
@@ -76,7 +87,8 @@ export class Shape {
 
 /** Corners that are turned and enlarged, y down. */
 function turned(corners, angle, scale) {
-  const cos = Math.cos(angle) * scale, sin = Math.sin(angle) * scale, places = new Float64Array(corners.length);
+  const cos = Math.cos(angle) * scale, sin = Math.sin(angle) * scale,
+      places = new Float64Array(corners.length);
   for (let i = 0; i < corners.length; i += 2) {
     places[i] = corners[i] * cos - corners[i + 1] * sin;
     places[i + 1] = -corners[i] * sin - corners[i + 1] * cos;
@@ -84,7 +96,8 @@ function turned(corners, angle, scale) {
   return places;
 }
 
-/** The sides of a piece that are not level, five numbers each: x and y of the upper end, y of the lower end, the slope,
+/** The sides of a piece that are not level, five numbers each: x and y of the upper end, y of the lower end,
+ * the slope,
  * and 1 for a left side. */
 function sidesOf(places, piece) {
   const sides = new Float64Array(5 * piece.length);
@@ -103,13 +116,15 @@ function sidesOf(places, piece) {
   return sides.subarray(0, spot);
 }
 
-/** The lines to draw, four numbers each. Of the two tiles at an edge, which run along it in opposite directions, one draws
+/** The lines to draw, four numbers each. Of the two tiles at an edge, which run along it in opposite
+ * directions, one draws
  * it. */
 function linesOf(places, edges) {
   const lines = new Float64Array(2 * edges.length);
   let spot = 0;
   for (let i = 0; i < edges.length; i += 2) {
-    const a = 2 * edges[i], b = 2 * edges[i + 1], wide = places[b] - places[a], high = places[b + 1] - places[a + 1];
+    const a = 2 * edges[i], b = 2 * edges[i + 1], wide = places[b] - places[a],
+        high = places[b + 1] - places[a + 1];
     const isOurs = Math.abs(high) > 1e-9 * Math.abs(wide) ? high < 0 : wide > 0;
     if (!isOurs) continue;
     lines[spot] = places[a];
@@ -197,7 +212,8 @@ export class Raster {
   /** A line that goes further along `u` than along `v`. `along` and `across` are the steps in `pixels`. */
   strip(u0, v0, u1, v1, most, wide, along, across, pen) {
     const slope = (v1 - v0) / (u1 - u0 || 1), half = pen.half * Math.sqrt(1 + slope * slope);
-    const first = Math.max(0, below(Math.min(u0, u1) + 0.5)), last = Math.min(most, below(Math.max(u0, u1) + 0.5));
+    const first = Math.max(0, below(Math.min(u0, u1) + 0.5)),
+        last = Math.min(most, below(Math.max(u0, u1) + 0.5));
     let v = v0 + (first + 0.5 - u0) * slope;
     for (let u = first; u < last; u++, v += slope) {
       if (v < half + 1 || v > wide - half - 1) this.coverRim(u * along, across, v, half, wide, pen);
@@ -205,7 +221,8 @@ export class Raster {
     }
   }
 
-  /** Draws a line over the pixels across it at `v`. A weak line first mixes the pixel there of the two beside it, by their
+  /** Draws a line over the pixels across it at `v`. A weak line first mixes the pixel there of the two beside
+   * it, by their
    * areas, so that the edge below the line is smooth. */
   cover(begin, across, v, half, pen) {
     const { pixels } = this, { colour, strength } = pen;
@@ -221,7 +238,8 @@ export class Raster {
       return;
     }
     pixels[spot] = mixed(pixels[spot], colour, ((cell + 1 - low) * strength) | 0);
-    for (cell++, spot += across; cell < last; cell++, spot += across) pixels[spot] = mixed(pixels[spot], colour, strength);
+    for (cell++, spot += across; cell < last; cell++, spot += across) pixels[spot] =
+        mixed(pixels[spot], colour, strength);
     pixels[spot] = mixed(pixels[spot], colour, ((high - last) * strength) | 0);
   }
 

@@ -8,11 +8,13 @@ export function starsIn(drawable, look, { at, x, y, width, height }) {
   const shrink = Math.min(1, Math.sqrt(MOST / (drawable.density * width * height)));
   const window = drawable.window({ ...look, at }, x, y, width * shrink, height * shrink);
   const patch = drawable.patchOf(window, look.isWhole), [x0, y0] = drawable.place(at);
-  const stars = starsOf(drawable, patch, look.isWhole), nearest = nearestOf(drawable, patch, stars, x0 + x, y0 + y);
+  const stars = starsOf(drawable, patch, look.isWhole),
+      nearest = nearestOf(drawable, patch, stars, x0 + x, y0 + y);
   const total = stars.filter((star) => star >= 0).length;
   return [...nearest.values()]
     .sort((a, b) => b.count - a.count)
-    .map(({ vertex, count }) => ({ ...starAt(drawable, look, patch, vertex, x0, y0), count, share: count / total }));
+    .map(({ vertex, count }) => ({
+        ...starAt(drawable, look, patch, vertex, x0, y0), count, share: count / total }));
 }
 
 /** For each star the vertex nearest to a place that has it, and how many have it. */

@@ -38,10 +38,12 @@ export class Drawable {
 
   /** Reads from a window which classes of tiles there are, and how many tiles an area has. */
   readSample() {
-    const sample = this.tiling.window(SAMPLE), area = SAMPLE.half[0] * 2 * SAMPLE.half[1] * Math.sin((2 * Math.PI) / this.order);
+    const sample = this.tiling.window(SAMPLE),
+        area = SAMPLE.half[0] * 2 * SAMPLE.half[1] * Math.sin((2 * Math.PI) / this.order);
     this.density = sample.length / area;
     const child = this.childCount(), isTaken = (isWhole) => (kind) => !isWhole || this.isFirst(kind);
-    this.classes = { true: this.classesOf(sample, isTaken(true), child), false: this.classesOf(sample, isTaken(false), child) };
+    this.classes = { true: this.classesOf(sample, isTaken(true), child),
+        false: this.classesOf(sample, isTaken(false), child) };
     this.starNumbers = {};
     sample.free();
   }
@@ -66,7 +68,8 @@ export class Drawable {
   /** The most children that a kind has. */
   childCount() {
     const isChild = (child) =>
-      this.kinds.some((parent) => this.kinds.some((kind) => this.tiling.fits({ kind, digits: [{ child, parent }] })));
+      this.kinds.some((parent) => this.kinds.some(
+          (kind) => this.tiling.fits({ kind, digits: [{ child, parent }] })));
     let count = 1;
     while (count < CHILDREN && isChild(count)) count++;
     return count;
@@ -75,17 +78,20 @@ export class Drawable {
   /** What the page has to know. */
   told() {
     const { name, order, density } = this;
-    return { name, order, density, hasHalves: this.tiling.hasHalves, classes: this.classes, isBuiltIn: this.tiling.name !== "-" };
+    return { name, order, density, hasHalves: this.tiling.hasHalves, classes: this.classes,
+        isBuiltIn: this.tiling.name !== "-" };
   }
 
   patchOf(window, isWhole) {
     return isWhole && this.tiling.hasHalves ? window.whole() : window;
   }
 
-  /** The window around x, y, counted from the point `at`, that has at least this width and height, in lengths. */
+  /** The window around x, y, counted from the point `at`, that has at least this width and height, in
+   * lengths. */
   window({ seed, base, at }, x, y, width, height, more = {}) {
     const near = this.tiling.pointNear(x, y);
-    const options = { seed, base, at: at.map((value, i) => value + near[i]), half: this.tiling.halfFor(width + 1, height + 1) };
+    const options = { seed, base, at: at.map((value, i) => value + near[i]),
+        half: this.tiling.halfFor(width + 1, height + 1) };
     return this.tiling.window({ ...options, ...more });
   }
 
@@ -94,7 +100,8 @@ export class Drawable {
     return this.tiling.xy(point);
   }
 
-  /** The base of the same frame with so many digits that supertiles of every level that is shown are known. */
+  /** The base of the same frame with so many digits that supertiles of every level that is shown are known.
+   * */
   deepBase({ seed, base }) {
     const key = `${seed} ${base}`;
     if (!this.deepBases.has(key)) {
@@ -111,7 +118,8 @@ export class Drawable {
       this.shapes.set(key, new Array(this.kinds.length * this.order));
     }
     const made = this.shapes.get(key);
-    return (kind, turn) => (made[kind * this.order + turn] ??= new Shape(this.formOf(kind, isWhole), (2 * Math.PI * turn) / this.order, scale));
+    return (kind, turn) => (made[kind * this.order + turn] ??= new Shape(
+        this.formOf(kind, isWhole), (2 * Math.PI * turn) / this.order, scale));
   }
 
   formOf(kind, isWhole) {
@@ -121,7 +129,8 @@ export class Drawable {
 
   /** The polygons of a tile that is not turned, and of each the edge along which it is glued to another. */
   partsOf(kind, isWhole) {
-    const part = (of, turn) => ({ corners: this.tiling.shape(of, turn), glued: isWhole ? this.glueEdges[of] : null });
+    const part = (of, turn) => ({ corners: this.tiling.shape(of, turn),
+        glued: isWhole ? this.glueEdges[of] : null });
     const mate = isWhole && this.mates[kind];
     if (!mate) return [part(kind, 0)];
     const second = part(mate.kind, mate.turn);
@@ -130,7 +139,8 @@ export class Drawable {
   }
 }
 
-/** The tile across an edge of a tile that lies on its prototile. Some seeds have none, so others are tried. */
+/** The tile across an edge of a tile that lies on its prototile. Some seeds have none, so others are tried.
+ * */
 function across(tiling, kind, edge) {
   for (let seed = 0; ; seed++) {
     try {
@@ -144,7 +154,8 @@ function across(tiling, kind, edge) {
 const extentOf = (corners) => {
   let most = 0;
   for (let i = 0; i < corners.length; i += 2) {
-    for (let j = 0; j < i; j += 2) most = Math.max(most, Math.hypot(corners[i] - corners[j], corners[i + 1] - corners[j + 1]));
+    for (let j = 0; j < i; j += 2) most =
+        Math.max(most, Math.hypot(corners[i] - corners[j], corners[i + 1] - corners[j + 1]));
   }
   return most;
 };
@@ -179,7 +190,8 @@ export function classesIn(drawable, patch, by, isWhole) {
   const stars = starsOf(drawable, patch, isWhole), corners = patch.corners(), { most } = patch;
   return Int32Array.from({ length: patch.length }, (_, i) => {
     let rarest = 0;
-    for (let j = i * most; j < i * most + most; j++) if (corners[j] >= 0) rarest = Math.max(rarest, stars[corners[j]]);
+    for (let j = i * most; j < i * most + most; j++) if (corners[j] >= 0) rarest =
+        Math.max(rarest, stars[corners[j]]);
     return rarest;
   });
 }

@@ -1,4 +1,5 @@
-// Reads the part of TOML that rule files are written in: keys, whole numbers, lists, texts, [tables] and [[lists of
+// Reads the part of TOML that rule files are written in: keys, whole numbers, lists, texts, [tables] and
+// [[lists of
 // tables]]. The engine decides whether a file is right; this serves the picture of its fault.
 
 class Reader {
@@ -20,7 +21,8 @@ class Reader {
 
   need(pattern, what) {
     const match = this.take(pattern);
-    if (!match) throw new SyntaxError(`line ${this.text.slice(0, this.spot).split("\n").length}: ${what} is missing`);
+    if (!match) throw new SyntaxError(
+        `line ${this.text.slice(0, this.spot).split("\n").length}: ${what} is missing`);
     return match;
   }
 

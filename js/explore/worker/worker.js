@@ -1,4 +1,5 @@
-// The worker: it has the engine, and answers the questions of the page. A question is { id, ask, .. }; its answer is
+// The worker: it has the engine, and answers the questions of the page. A question is { id, ask, .. }; its
+// answer is
 // { id, value }, or { id, fault } where the engine refuses.
 import { Engine } from "../../pagnetuf.js";
 import { Drawable } from "./tilings.js";
@@ -38,7 +39,8 @@ const questions = {
     } catch (refusal) {
       if (!refusal.status) throw refusal;
       const text = new TextDecoder().decode(bytes);
-      return { refused: { ...toldRefusal(refusal), ...faultPicture(text, refusal.line.split(" ").slice(2)) } };
+      return { refused: { ...toldRefusal(refusal),
+          ...faultPicture(text, refusal.line.split(" ").slice(2)) } };
     }
   },
 
@@ -84,7 +86,8 @@ const questions = {
   /** The first of some points around which the tiling has an answer, or null. */
   async firstOf({ look, points }) {
     const { tiling } = await drawableOf(look.tiling);
-    return points.find((at) => isAnswered(() => tiling.window({ ...look, at, half: [2, 2], addresses: false }))) ?? null;
+    return points.find((at) => isAnswered(
+        () => tiling.window({ ...look, at, half: [2, 2], addresses: false }))) ?? null;
   },
 };
 
