@@ -1,5 +1,6 @@
-"""Browsers without a screen: Chromium by its DevTools protocol over a pipe, Firefox by its Marionette protocol. Nothing but
-the two programs is needed. What a page gives to be saved comes into the folder `files`."""
+"""Browsers without a screen: Chromium by its DevTools protocol over a pipe, Firefox by its Marionette
+protocol. Nothing but the two programs is needed. What a page gives to be saved comes into the folder
+`files`."""
 import base64
 import json
 import os
@@ -19,7 +20,14 @@ class Chromium:
 
     @staticmethod
     def program():
-        return next((found for found in map(shutil.which, ("chromium", "chromium-browser", "google-chrome")) if found), None)
+        return next(
+            (
+                found
+                for found in map(shutil.which, ("chromium", "chromium-browser", "google-chrome"))
+                if found
+            ),
+            None,
+        )
 
     def __init__(self):
         self.folder, self.files = tempfile.mkdtemp(), tempfile.mkdtemp()
@@ -27,20 +35,32 @@ class Chromium:
         theirs_in, self.to = os.pipe()
         self.back, theirs_out = os.pipe()
         words = [
-            self.program(), "--headless=new", "--no-sandbox", "--disable-gpu", "--disable-dev-shm-usage", "--hide-scrollbars",
-            "--no-first-run", "--disable-background-networking", "--remote-debugging-pipe", f"--user-data-dir={self.folder}",
+            self.program(),
+            "--headless=new",
+            "--no-sandbox",
+            "--disable-gpu",
+            "--disable-dev-shm-usage",
+            "--hide-scrollbars",
+            "--no-first-run",
+            "--disable-background-networking",
+            "--remote-debugging-pipe",
+            f"--user-data-dir={self.folder}",
             "about:blank",
         ]
         call = ["sh", "-c", f'exec "$@" 3<&{theirs_in} 4>&{theirs_out}', "sh", *words]
         quiet = subprocess.DEVNULL
-        self.process = subprocess.Popen(call, pass_fds=(theirs_in, theirs_out), stdin=quiet, stdout=quiet, stderr=quiet)
+        self.process = subprocess.Popen(
+            call, pass_fds=(theirs_in, theirs_out), stdin=quiet, stdout=quiet, stderr=quiet
+        )
         os.close(theirs_in)
         os.close(theirs_out)
         self.rest, self.session = b"", None
         self.ask("Browser.setDownloadBehavior", behavior="allow", downloadPath=self.files)
         self.ask("Browser.grantPermissions", permissions=["clipboardReadWrite", "clipboardSanitizedWrite"])
         target = next(it for it in self.ask("Target.getTargets")["targetInfos"] if it["type"] == "page")
-        self.session = self.ask("Target.attachToTarget", targetId=target["targetId"], flatten=True)["sessionId"]
+        self.session = self.ask("Target.attachToTarget", targetId=target["targetId"], flatten=True)[
+            "sessionId"
+        ]
         for domain in ("Page", "Runtime", "Log"):
             self.ask(f"{domain}.enable")
         self.ask("Emulation.setFocusEmulationEnabled", enabled=True)
@@ -80,7 +100,13 @@ class Chromium:
         return answer["result"].get("value")
 
     def size(self, width, height, ratio=1, phone=False, scheme="light"):
-        self.ask("Emulation.setDeviceMetricsOverride", width=width, height=height, deviceScaleFactor=ratio, mobile=phone)
+        self.ask(
+            "Emulation.setDeviceMetricsOverride",
+            width=width,
+            height=height,
+            deviceScaleFactor=ratio,
+            mobile=phone,
+        )
         self.ask("Emulation.setTouchEmulationEnabled", enabled=phone, maxTouchPoints=5)
         features = [{"name": "prefers-color-scheme", "value": scheme}]
         self.ask("Emulation.setEmulatedMedia", features=features)
@@ -115,7 +141,16 @@ class Chromium:
         self.ask("Input.dispatchTouchEvent", type="touchEnd", touchPoints=[])
 
     def key(self, key):
-        code = {"Home": 36, "Enter": 13, "Escape": 27, "ArrowLeft": 37, "ArrowUp": 38, "ArrowRight": 39, "ArrowDown": 40, "Tab": 9}
+        code = {
+            "Home": 36,
+            "Enter": 13,
+            "Escape": 27,
+            "ArrowLeft": 37,
+            "ArrowUp": 38,
+            "ArrowRight": 39,
+            "ArrowDown": 40,
+            "Tab": 9,
+        }
         more = {"windowsVirtualKeyCode": code[key]} if key in code else {"text": key}
         if key == "Enter":
             more["text"] = "\r"
@@ -169,10 +204,22 @@ class Firefox:
             "dom.events.testing.asyncClipboard": True,
         }
         with open(os.path.join(self.folder, "user.js"), "w", encoding="utf-8") as file:
-            file.writelines(f"user_pref({json.dumps(name)}, {json.dumps(value)});\n" for name, value in wanted.items())
-        words = [self.program(), "--headless", "--marionette", "--no-remote", "--profile", self.folder, "about:blank"]
+            file.writelines(
+                f"user_pref({json.dumps(name)}, {json.dumps(value)});\n" for name, value in wanted.items()
+            )
+        words = [
+            self.program(),
+            "--headless",
+            "--marionette",
+            "--no-remote",
+            "--profile",
+            self.folder,
+            "about:blank",
+        ]
         quiet = subprocess.DEVNULL
-        self.process = subprocess.Popen(words, stdin=quiet, stdout=quiet, stderr=quiet, env={**os.environ, "HOME": self.folder})
+        self.process = subprocess.Popen(
+            words, stdin=quiet, stdout=quiet, stderr=quiet, env={**os.environ, "HOME": self.folder}
+        )
         self.link = self.connected(port)
         self.receive()
         self.ask("WebDriver:NewSession", strictFileInteractability=False)
@@ -211,7 +258,9 @@ class Firefox:
             "const done = arguments[0]; Promise.resolve().then(() => window.eval(" + json.dumps(text) + "))"
             ".then(value => done({value}), fault => done({fault: String(fault)}))"
         )
-        told = self.ask("WebDriver:ExecuteAsyncScript", script=script, args=[], newSandbox=False, sandbox="")["value"]
+        told = self.ask("WebDriver:ExecuteAsyncScript", script=script, args=[], newSandbox=False, sandbox="")[
+            "value"
+        ]
         if told.get("fault"):
             raise Trouble(told["fault"])
         return told.get("value")
@@ -242,27 +291,65 @@ class Firefox:
 
     def drag(self, x, y, dx, dy):
         steps = [self.to(x + dx * i / 5, y + dy * i / 5) for i in range(1, 6)]
-        self.act(self.pointer(self.to(x, y), {"type": "pointerDown", "button": 0}, *steps, {"type": "pointerUp", "button": 0}))
+        self.act(
+            self.pointer(
+                self.to(x, y),
+                {"type": "pointerDown", "button": 0},
+                *steps,
+                {"type": "pointerUp", "button": 0},
+            )
+        )
 
     def click(self, x, y):
-        self.act(self.pointer(self.to(x, y), {"type": "pointerDown", "button": 0}, {"type": "pointerUp", "button": 0}))
+        self.act(
+            self.pointer(
+                self.to(x, y), {"type": "pointerDown", "button": 0}, {"type": "pointerUp", "button": 0}
+            )
+        )
 
     def wheel(self, x, y, by):
-        step = {"type": "scroll", "x": round(x), "y": round(y), "deltaX": 0, "deltaY": round(by), "duration": 0}
+        step = {
+            "type": "scroll",
+            "x": round(x),
+            "y": round(y),
+            "deltaX": 0,
+            "deltaY": round(by),
+            "duration": 0,
+        }
         self.act({"type": "wheel", "id": "wheel", "actions": [step]})
 
     def fingers(self, *frames):
         sources = []
         for number in range(len(frames[0])):
             first, *others = [self.to(*frame[number]) for frame in frames]
-            steps = [first, {"type": "pointerDown", "button": 0}, *({**it, "duration": 20} for it in others), {"type": "pointerUp", "button": 0}]
+            steps = [
+                first,
+                {"type": "pointerDown", "button": 0},
+                *({**it, "duration": 20} for it in others),
+                {"type": "pointerUp", "button": 0},
+            ]
             sources.append(self.pointer(*steps, kind="touch", name=f"finger{number}"))
         self.act(*sources)
 
     def key(self, key):
-        codes = {"Home": "\ue011", "Enter": "\ue007", "Escape": "\ue00c", "ArrowLeft": "\ue012", "ArrowUp": "\ue013", "ArrowRight": "\ue014", "ArrowDown": "\ue015", "Tab": "\ue004"}
+        codes = {
+            "Home": "\ue011",
+            "Enter": "\ue007",
+            "Escape": "\ue00c",
+            "ArrowLeft": "\ue012",
+            "ArrowUp": "\ue013",
+            "ArrowRight": "\ue014",
+            "ArrowDown": "\ue015",
+            "Tab": "\ue004",
+        }
         value = codes.get(key, key)
-        self.act({"type": "key", "id": "keys", "actions": [{"type": "keyDown", "value": value}, {"type": "keyUp", "value": value}]})
+        self.act(
+            {
+                "type": "key",
+                "id": "keys",
+                "actions": [{"type": "keyDown", "value": value}, {"type": "keyUp", "value": value}],
+            }
+        )
 
     def picture(self):
         return base64.b64decode(self.ask("WebDriver:TakeScreenshot", full=False)["value"])

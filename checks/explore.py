@@ -1,5 +1,5 @@
-"""What docs/explore.html shows and does in a browser, held against the program: see explore.sh. Called with the top and the
-program."""
+"""What docs/explore.html shows and does in a browser, held against the program: see explore.sh. Called
+with the top and the program."""
 import cmath
 import json
 import math
@@ -17,7 +17,15 @@ import rule_file  # noqa: E402
 from browsers import Chromium, Firefox, Trouble  # noqa: E402
 
 PAGE = "file://" + os.path.join(TOP, "docs", "explore.html")
-BUILT_IN = {"penrose_p3": "p3", "penrose_p2": "p2", "ammann_beenker": "ab", "chair": "chair", "half_hex": "halfhex"}
+with open(os.path.join(TOP, "checks", "explore.js"), encoding="utf-8") as helpers:
+    HELPERS = helpers.read() + "\ntrue"
+BUILT_IN = {
+    "penrose_p3": "p3",
+    "penrose_p2": "p2",
+    "ammann_beenker": "ab",
+    "chair": "chair",
+    "half_hex": "halfhex",
+}
 RULES = sorted(name[:-5] for name in os.listdir(os.path.join(TOP, "rules")) if name.endswith(".toml"))
 DESK, PHONE = (1280, 800), (390, 844)
 PLACES = (
@@ -36,17 +44,23 @@ LAKE = {"penrose_p3": {0: "#1f5f7a", 2: "#8ecae6"}, "ammann_beenker": {0: "#1f5f
 STARS = {"penrose_p3": 8, "penrose_p2": 7}
 
 
-# ---- the program --------------------------------------------------------------------------------------------------
+# ---- the program ----------------------------------------------------------------------------------
 def rule_words(name):
     """What a call names the rule by, and the file that it reads."""
-    return (f"rule={BUILT_IN[name]}", None) if name in BUILT_IN else ("rule=-", os.path.join(TOP, "rules", name + ".toml"))
+    return (
+        (f"rule={BUILT_IN[name]}", None)
+        if name in BUILT_IN
+        else ("rule=-", os.path.join(TOP, "rules", name + ".toml"))
+    )
 
 
 def call(name, *words):
     """What the program prints for a rule."""
     rule, path = rule_words(name)
     with open(path or os.devnull, "rb") as file:
-        ran = subprocess.run([PROGRAM, words[0], rule, *words[1:]], stdin=file, capture_output=True, text=True, check=False)
+        ran = subprocess.run(
+            [PROGRAM, words[0], rule, *words[1:]], stdin=file, capture_output=True, text=True, check=False
+        )
     return ran.stdout if ran.returncode == 0 else ran.stderr
 
 
@@ -73,7 +87,12 @@ def inside(polygon, point):
     sides = rule_file.sides(polygon)
     if min(distance(point, a, b) for a, b in sides) < 0.01:
         return False
-    crossed = [a for a, b in sides if (a.imag > point.imag) != (b.imag > point.imag) and rule_file.cross(b - a, point - a) * (b.imag - a.imag) > 0]
+    crossed = [
+        a
+        for a, b in sides
+        if (a.imag > point.imag) != (b.imag > point.imag)
+        and rule_file.cross(b - a, point - a) * (b.imag - a.imag) > 0
+    ]
     return len(crossed) % 2 == 1
 
 
@@ -94,7 +113,9 @@ def listing(name, seed, at, half, whole, addr="0:"):
 def alike(one, two):
     """Whether two addresses name one tile: of two windows one may have more digits."""
     pairs = list(zip(one.split(" + "), two.split(" + ")))
-    return len(one.split(" + ")) == len(two.split(" + ")) and all(a.startswith(b) or b.startswith(a) for a, b in pairs)
+    return len(one.split(" + ")) == len(two.split(" + ")) and all(
+        a.startswith(b) or b.startswith(a) for a, b in pairs
+    )
 
 
 def first_line(path):
@@ -102,7 +123,7 @@ def first_line(path):
         return file.readline().strip()
 
 
-# ---- the page -----------------------------------------------------------------------------------------------------
+# ---- the page -------------------------------------------------------------------------------------
 class Page:
     """The page in a browser, and what was compared there."""
 
@@ -138,8 +159,13 @@ class Page:
         self.browser.size(*size, 1, phone, scheme)
         words = "&".join(f"{name}={value}" for name, value in view.items())
         self.where = words or "the start"
-        self.browser.open(f"{PAGE}#{words}" if words else PAGE)
+        self.load(f"#{words}" if words else "")
+
+    def load(self, view):
+        """The page anew, at a view as its address has it."""
+        self.browser.open(PAGE + view)
         self.ready()
+        self.js(HELPERS)
 
     def at(self, place, **more):
         name, tiles, seed, at = place
@@ -156,9 +182,12 @@ class Page:
 
     def place(self):
         """The point in the middle of the view, and the scale."""
-        here = self.js("({at: explorer.state.at, x: explorer.state.x, y: explorer.state.y, scale: explorer.state.scale, order: explorer.told.order})")
+        here = self.js("asked.here()")
         zeta = cmath.exp(2j * cmath.pi / here["order"])
-        return sum(a * zeta**i for i, a in enumerate(here["at"])) + complex(here["x"], here["y"]), here["scale"]
+        return (
+            sum(a * zeta**i for i, a in enumerate(here["at"])) + complex(here["x"], here["y"]),
+            here["scale"],
+        )
 
     def saved(self, name):
         """The text of a file that the page gives."""
@@ -177,19 +206,19 @@ class Page:
         return data
 
 
-# ---- what is compared ---------------------------------------------------------------------------------------------
+# ---- what is compared -----------------------------------------------------------------------------
 def try_start(page):
     """The first view: a tiling fills it, and the page says nothing on the console."""
     page.open()
     page.same("the title", page.text("title-name"), "Penrose rhombs")
     page.true("tiles are drawn", page.js("explorer.screen.report.tiles") > 400)
     page.true("no fault is shown", page.js("document.getElementById('fault').hidden"))
-    page.same("what is loaded from elsewhere", page.js("performance.getEntriesByType('resource').filter(it => !it.name.startsWith('blob:') && !it.name.startsWith('data:')).length"), 0)
+    page.same("what is loaded from elsewhere", page.js("asked.loaded()"), 0)
 
 
 def try_tiles(page):
-    """The tile under the pointer: its address, position and turn are those of the tile that holds the point in the program's
-    list; so are the tiles across its edges."""
+    """The tile under the pointer: its address, position and turn are those of the tile that holds the
+    point in the program's list; so are the tiles across its edges."""
     for place in PLACES:
         page.at(place)
         name, tiles, seed, at = place
@@ -205,7 +234,9 @@ def try_tiles(page):
             asked += 1
             page.browser.move(x + dx, y + dy)
             page.wait("explorer.marks.pointed && !explorer.isAsking")
-            told = page.js("(({name, kind, turn, shift}) => [name, kind, turn, shift.join()])(explorer.marks.pointed)")
+            told = page.js(
+                "(({name, kind, turn, shift}) => [name, kind, turn, shift.join()])(explorer.marks.pointed)"
+            )
             page.true(f"{told[0]} names {tile.name}", alike(told[0], tile.name))
             page.same(f"kind, turn and position of {tile.name}", told[1:], [tile.kind, tile.turn, tile.shift])
             page.true("the card says the address", told[0] in page.text("tile-body"))
@@ -225,7 +256,9 @@ def neighbours(page, known, tiles):
     page.true("each neighbour is known", all(told))
     for (a, b), name in zip(rule_file.sides(corners), told):
         across = (a + b) / 2 - (b - a) * 1j / abs(b - a) * 0.05
-        tile = next((it for it in known if any(inside_loosely(polygon, across) for polygon in it.polygons)), None)
+        tile = next(
+            (it for it in known if any(inside_loosely(polygon, across) for polygon in it.polygons)), None
+        )
         if tile:
             page.true(f"{name} is across, which is {tile.name}", alike(name, tile.name))
     page.same("rows of the card", page.js("document.querySelectorAll('#tile .link code').length"), len(told))
@@ -234,7 +267,12 @@ def neighbours(page, known, tiles):
 
 def inside_loosely(polygon, point):
     sides = rule_file.sides(polygon)
-    crossed = [a for a, b in sides if (a.imag > point.imag) != (b.imag > point.imag) and rule_file.cross(b - a, point - a) * (b.imag - a.imag) > 0]
+    crossed = [
+        a
+        for a, b in sides
+        if (a.imag > point.imag) != (b.imag > point.imag)
+        and rule_file.cross(b - a, point - a) * (b.imag - a.imag) > 0
+    ]
     return len(crossed) % 2 == 1
 
 
@@ -246,19 +284,26 @@ def try_stars(page):
         page.press("find-stars")
         page.wait("document.querySelectorAll('#star-list button').length")
         page.same("stars", page.js("document.querySelectorAll('#star-list svg').length"), count)
-        names = page.js("[...document.querySelectorAll('#star-list button')].map(it => it.getAttribute('aria-label'))")
+        names = page.js(
+            "[...document.querySelectorAll('#star-list button')].map(it => it.getAttribute('aria-label'))"
+        )
         page.same("different names", len(set(names)), count)
         shares = [float(re.search(r"([\d.]+) %", it)[1]) for it in names]
         page.true("the shares are 100 %", abs(sum(shares) - 100) < 0.1 * count)
         page.js("document.querySelectorAll('#star-list button')[2].click()")
         page.wait("explorer.marks.kept?.star")
-        page.true("the view goes there", page.js("explorer.state.at.join() === explorer.marks.kept.star.point.join()"))
+        page.true(
+            "the view goes there",
+            page.js("explorer.state.at.join() === explorer.marks.kept.star.point.join()"),
+        )
     for name in ("penrose_p3", "sphinx"):
         page.open(tiling=name, tiles="halves", at="30,-7,0,0", scale=60)
         x, y = page.middle()
         page.browser.click(x + 9, y - 7)
         page.wait("explorer.marks.kept")
-        words = page.js("document.querySelector('#tile .command code').textContent").split(" < ")[0].split(" ")
+        words = (
+            page.js("document.querySelector('#tile .command code').textContent").split(" < ")[0].split(" ")
+        )
         lines = call(name, "star", *words[3:]).splitlines()
         page.same("tiles of the star", page.js("explorer.marks.kept.star.tiles.length"), len(lines))
 
@@ -293,7 +338,10 @@ def try_fingers(page):
     page.true("around their middle", abs(after - before) < 0.6)
     page.browser.fingers([(x + 40, y + 25)])
     page.wait("explorer.marks.kept")
-    page.true("a tap names the tile", page.js("!document.getElementById('tile').hidden && explorer.marks.kept.name.length > 3"))
+    page.true(
+        "a tap names the tile",
+        page.js("!document.getElementById('tile').hidden && explorer.marks.kept.name.length > 3"),
+    )
     page.open(PHONE, True, tiling="penrose_p3", scale=40)
     page.browser.fingers(*[[(x + 20 * step, y)] for step in range(6)])
     page.true("a finger moves the view", page.place()[0].real < -1.5)
@@ -325,15 +373,16 @@ def try_keys(page):
 def try_address(page):
     """The page's address keeps the view; jumps go to points, and far away."""
     page.open()
-    page.js("explorer.cards.show('places'); document.getElementById('point').value = '300,-20,7,1'; document.querySelector('#point-form button').click()")
+    page.js("asked.fill('places', 'point', '300,-20,7,1')")
     page.ready()
     page.js("explorer.change({by: 'turn', palette: 'rose', level: 2, lines: false, seed: '9'})")
     time.sleep(0.5)
     kept = page.js("location.hash")
     page.true("the address has the point", "at=300,-20,7,1" in kept)
-    page.browser.open(PAGE + kept)
-    page.ready()
-    page.same("what it keeps", page.js("[explorer.state.by, explorer.state.palette, explorer.state.level, explorer.state.lines, explorer.state.seed, explorer.state.at.join()]"), ["turn", "rose", 2, False, "9", "300,-20,7,1"])
+    page.load(kept)
+    kept = "({by, palette, level, lines, seed, at}) => [by, palette, level, lines, seed, at.join()]"
+    state = page.js(f"({kept})(explorer.state)")
+    page.same("what it keeps", state, ["turn", "rose", 2, False, "9", "300,-20,7,1"])
     page.press("far")
     page.wait("Math.max(...explorer.state.at.map(Math.abs)) === 1000000")
     page.ready()
@@ -344,7 +393,8 @@ def try_address(page):
 
 
 def try_saving(page):
-    """The command that is copied draws the tiles of the view; SVG and PNG are of the view, the board is right."""
+    """The command that is copied draws the tiles of the view; SVG and PNG are of the view, the board is
+    right."""
     for place in PLACES[:3] + PLACES[5:7]:
         page.at(place)
         name, tiles, seed, _ = place
@@ -365,11 +415,19 @@ def try_saving(page):
         drawn = [it for it in root.iter("{http://www.w3.org/2000/svg}polygon")]
         seen = {it[0].text for it in drawn if is_seen(it, box)}
         page.true("the picture has tiles", len(seen) > 50)
-        page.same("tiles of the picture that the command doesn't draw", sorted(it for it in seen if not any(alike(it, other) for other in known))[:3], [])
+        page.same(
+            "tiles of the picture that the command doesn't draw",
+            sorted(it for it in seen if not any(alike(it, other) for other in known))[:3],
+            [],
+        )
         page.same("the picture's width in lengths", round(box[2], 2), round(DESK[0] / 50, 2))
     page.press("save-png")
     png = page.saved(f"{name}.png")
-    page.same("the size of the PNG", [int.from_bytes(png[i : i + 4], "big") for i in (16, 20)], page.js("[innerWidth, innerHeight]"))
+    page.same(
+        "the size of the PNG",
+        [int.from_bytes(png[i : i + 4], "big") for i in (16, 20)],
+        page.js("[innerWidth, innerHeight]"),
+    )
     board(page)
 
 
@@ -390,14 +448,22 @@ def board(page):
     for tile in tiles:
         name = next((it for it in known if alike(it, tile["address"])), None)
         page.true(f"the program has {tile['address']}", name)
-        page.same(f"kind and turn of {name}", [tile["kind"], tile["turn"]], [known[name].kind, known[name].turn])
+        page.same(
+            f"kind and turn of {name}", [tile["kind"], tile["turn"]], [known[name].kind, known[name].turn]
+        )
         corners = [z for polygon in known[name].polygons for z in polygon]
-        page.true("its corners are there", all(min(abs(vertices[it] - z) for z in corners) < 1e-6 for it in tile["corners"]))
+        page.true(
+            "its corners are there",
+            all(min(abs(vertices[it] - z) for z in corners) < 1e-6 for it in tile["corners"]),
+        )
         for edge, other in enumerate(tile["neighbours"]):
             if other is not None:
                 a, b = tile["corners"][edge], tile["corners"][(edge + 1) % 4]
                 theirs = tiles[other]["corners"]
-                page.true("a neighbour has the edge", any(theirs[i] == b and theirs[(i + 1) % 4] == a for i in range(4)))
+                page.true(
+                    "a neighbour has the edge",
+                    any(theirs[i] == b and theirs[(i + 1) % 4] == a for i in range(4)),
+                )
 
 
 def try_rules(page):
@@ -414,20 +480,26 @@ def try_rules(page):
         page.wait(f"explorer.state.tiling === '{name}' && explorer.told.name === '{name}'")
         page.ready()
         known = listing(name, 0, (0, 0, 0, 0), (4, 4), True)
-        tile = page.js("explorer.tileAt(explorer.placeOf(7, 11)).then(({name, kind, turn, shift}) => [name, kind, turn, shift.join()])")
+        tile = page.js("asked.tileAt(7, 11)")
         point = complex(7, -11) / page.place()[1]
         right = [it for it in known if any(inside_loosely(polygon, point) for polygon in it.polygons)]
-        page.true(f"{tile[0]} is the program's", right and alike(right[0].name, tile[0]) and [right[0].kind, right[0].turn, right[0].shift] == tile[1:])
+        page.true(
+            f"{tile[0]} is the program's",
+            right
+            and alike(right[0].name, tile[0])
+            and [right[0].kind, right[0].turn, right[0].shift] == tile[1:],
+        )
     page.true("no fault is shown", page.js("document.getElementById('fault').hidden"))
 
 
-DROP = """(() => { const data = new DataTransfer(); data.items.add(new File([%s], %s));
-  const event = new DragEvent('drop', {bubbles: true, cancelable: true, dataTransfer: data});
-  document.getElementById('tiling').dispatchEvent(event); })()"""
+def drop(page, text, name):
+    """Drops a file on the page."""
+    page.js(f"asked.drop({json.dumps(text)}, {json.dumps(name)})")
 
 
 def try_files(page):
-    """A rule file that is dropped is drawn; the fault of a refused one is that of the program, with a picture."""
+    """A rule file that is dropped is drawn; the fault of a refused one is that of the program, with a
+    picture."""
     page.open()
     folder = os.path.join(TOP, "docs", "refused")
     for name in sorted(it for it in os.listdir(folder) if it.endswith(".toml")):
@@ -436,26 +508,29 @@ def try_files(page):
         with open(path, encoding="utf-8") as file:
             text = file.read()
         page.js("document.getElementById('fault').hidden = true")
-        page.js(DROP % (json.dumps(text), json.dumps(name)))
+        drop(page, text, name)
         page.wait("!document.getElementById('fault').hidden")
         page.same("the line", page.text("fault-line"), first_line(path).removeprefix("# Refused: "))
         page.wait("document.querySelector('#fault-picture img')?.naturalWidth > 100")
         source = page.js("decodeURIComponent(document.querySelector('#fault-picture img').src)")
-        drawn = subprocess.run([sys.executable, os.path.join(TOP, "tools", "draw_rule.py"), path], stdout=subprocess.PIPE, text=True, check=True).stdout
-        count = lambda picture: len(re.findall('stroke="#d00000"', picture))
-        page.same("red lines", count(source), count(drawn))
-    page.js(DROP % (json.dumps("order = 5\n"), json.dumps("nothing.toml")))
-    page.wait("document.getElementById('fault-line').textContent.startsWith('3 RuleRefused') && !document.querySelector('#fault-picture img')")
+        drawn = subprocess.run(
+            [sys.executable, os.path.join(TOP, "tools", "draw_rule.py"), path],
+            stdout=subprocess.PIPE,
+            text=True,
+            check=True,
+        ).stdout
+        page.same("red lines", *(picture.count('stroke="#d00000"') for picture in (source, drawn)))
+    drop(page, "order = 5\n", "nothing.toml")
+    page.wait("document.getElementById('fault-line').textContent.startsWith('3 RuleRefused Missing')")
+    page.true("no picture of it", page.js("!document.querySelector('#fault-picture img')"))
     with open(os.path.join(TOP, "rules", "sphinx.toml"), encoding="utf-8") as file:
-        page.js(DROP % (json.dumps(file.read()), json.dumps("my sphinx.toml")))
+        drop(page, file.read(), "my sphinx.toml")
     page.wait("explorer.state.tiling === 'my_sphinx.toml'")
     page.ready()
     page.true("the fault is gone", page.js("document.getElementById('fault').hidden"))
     time.sleep(0.5)
     kept = page.js("location.hash")
-    page.browser.open(PAGE + kept)
-    page.wait("window.explorer?.state.tiling === 'my_sphinx.toml' && explorer.told")
-    page.ready()
+    page.load(kept)
     page.same("a file in the page's address", page.js("explorer.told.classes.true.kinds"), [0, 1])
 
 
@@ -463,84 +538,65 @@ def try_colours(page):
     """The middle of each tile has the colour of its kind, as pictures of the package have."""
     for name, colours in LAKE.items():
         page.open(tiling=name, scale=60)
-        seen = page.js(PIXELS)
+        seen = page.js("asked.colours()")
         page.true("tiles are asked for", len(seen) > 60)
         page.same("tiles of another colour", [it for it in seen if colours[it[0]] != it[1]][:3], [])
     page.js("explorer.change({own: new Map([['k0', '#123456']])})")
     page.ready()
-    page.same("a colour of one's own", {it[1] for it in page.js(PIXELS) if it[0] == 0}, {"#123456"})
-
-
-PIXELS = """(async () => {
-  const {width, height} = explorer.screen.canvas, found = [], ratio = explorer.screen.ratio;
-  for (let i = 0; i < 12; i++) for (let j = 0; j < 8; j++) {
-    const tile = await explorer.tileAt(explorer.placeOf((i - 5.5) * 90, (j - 3.5) * 90));
-    const middle = [0, 1].map(k => tile.outline.reduce((sum, it) => sum + it[k], 0) / tile.outline.length);
-    const x = width / 2 + (middle[0] - explorer.state.x) * explorer.state.scale * ratio, y = height / 2 - (middle[1] - explorer.state.y) * explorer.state.scale * ratio;
-    const [red, green, blue] = explorer.screen.pen.getImageData(x, y, 1, 1).data;
-    found.push([tile.kind, "#" + [red, green, blue].map(it => it.toString(16).padStart(2, "0")).join("")]);
-  }
-  return found;
-})()"""
+    page.same(
+        "a colour of one's own", {it[1] for it in page.js("asked.colours()") if it[0] == 0}, {"#123456"}
+    )
 
 
 def try_looks(page):
-    """Nothing sticks out at any size, no card hides the controls, and words have enough contrast, light and dark."""
+    """Nothing sticks out at any size, no card hides the controls, and words have enough contrast, light
+    and dark."""
     for size, phone in (((2560, 1440), False), ((1600, 1000), False), ((1280, 720), False), (PHONE, True)):
         for scheme in ("light", "dark"):
             page.open(size, phone, scheme, tiling="penrose_p3")
             page.where = f"{size[0]} x {size[1]}, {scheme}"
-            page.same("how much sticks out", page.js("[document.documentElement.scrollWidth - innerWidth, document.documentElement.scrollHeight - innerHeight]"), [0, 0])
+            page.same("how much sticks out", page.js("asked.sticksOut()"), [0, 0])
             for card in ("tilings", "look", "places", "save", "help"):
                 page.js(f"explorer.cards.show('{card}')")
-                page.true(f"{card} is in view", page.js(IN_VIEW % f"'{card}'"))
-                page.same(f"words of {card} with too little contrast", page.js(CONTRAST % f"'{card}'"), [])
-                page.same(f"controls of {card} without a name", page.js(NAMELESS % f"'{card}'"), [])
+                page.true(f"{card} is in view", page.js(f"asked.isInView('{card}')"))
+                page.same(f"words of {card} with too little contrast", page.js(f"asked.faint('{card}')"), [])
+                page.same(f"controls of {card} without a name", page.js(f"asked.nameless('{card}')"), [])
                 page.js("explorer.cards.close(true)")
-            small = page.js("[...document.querySelectorAll('#bar button, #zoom button')].filter(it => it.offsetParent && (it.offsetWidth < 44 || it.offsetHeight < 44)).map(it => it.textContent)")
-            page.same("controls that are too small for a finger", small, [])
+            page.same("controls that are too small for a finger", page.js("asked.small()"), [])
 
 
-IN_VIEW = """(name => { const box = document.getElementById(name).getBoundingClientRect();
-  return box.left >= 0 && box.top >= 0 && box.right <= innerWidth && box.bottom <= innerHeight && box.width > 200 && box.height > 100; })(%s)"""
-NAMELESS = """(name => [...document.querySelectorAll(`#${name} :is(button, input, select)`)].filter(it => it.offsetParent
-  && !it.textContent.trim() && !it.getAttribute("aria-label") && !it.labels?.length && !it.title).map(it => it.outerHTML))(%s)"""
-CONTRAST = """(name => {
-  const channel = value => value <= 0.03928 ? value / 12.92 : ((value + 0.055) / 1.055) ** 2.4;
-  const light = colour => { const [r, g, b] = colour.match(/[\\d.]+/g).slice(0, 3).map(it => channel(it / 255)); return 0.2126 * r + 0.7152 * g + 0.0722 * b; };
-  const ground = it => { for (let at = it; at; at = at.parentElement) { const colour = getComputedStyle(at).backgroundColor; if (!/, 0\\)$|transparent/.test(colour)) return colour; } return "rgb(255,255,255)"; };
-  const words = [...document.querySelectorAll(`#${name} *`)].filter(it => it.offsetParent && [...it.childNodes].some(node => node.nodeType === 3 && node.textContent.trim()));
-  return words.filter(it => { const a = light(getComputedStyle(it).color), b = light(ground(it)); return (Math.max(a, b) + 0.05) / (Math.min(a, b) + 0.05) < 4.5; }).map(it => it.textContent.trim().slice(0, 40));
-})(%s)"""
-
-ALL = (try_start, try_tiles, try_stars, try_hands, try_fingers, try_keys, try_address, try_saving, try_rules, try_files, try_colours, try_looks)
+ALL = (
+    try_start,
+    try_tiles,
+    try_stars,
+    try_hands,
+    try_fingers,
+    try_keys,
+    try_address,
+    try_saving,
+    try_rules,
+    try_files,
+    try_colours,
+    try_looks,
+)
 ONLY_CHROMIUM = (try_fingers, try_looks)  # (phones and dark pages are had by its protocol alone)
 
 
-# ---- how fast, and pictures ---------------------------------------------------------------------------------------
+# ---- how fast, and pictures -----------------------------------------------------------------------
 def times(page):
     """Prints how fast the page is."""
     page.open((1600, 1000))
-    first = page.js("explorer.screen.report.first")
+    name, first = page.browser.name, page.js("explorer.screen.report.first")
+    print(f"explore: {name}: first view after {first:.0f} ms")
     page.js("explorer.change({scale: Math.sqrt(1600 * 1000 * explorer.told.density / 2 / 20000)})")
     page.ready()
-    spent = []
-    for i in range(9):
-        page.js(f"explorer.screen.top.key = ''; explorer.changed(); explorer.screen.report.views = 0")
-        page.wait("explorer.screen.report.views > 0")
-        page.ready()
-        spent.append(page.js("[explorer.screen.report.spent, explorer.screen.report.waited, explorer.screen.report.tiles]"))
-    middle = sorted(it[0] for it in spent)[4], sorted(it[1] for it in spent)[4]
-    print(f"explore: {page.browser.name}: first view after {first:.0f} ms; {spent[0][2]} half tiles of p3 in 1600 x 1000: painted in {middle[0]:.0f} ms of a worker, shown after {middle[1]:.0f} ms")
-    for name, step in (("panning", "explorer.move(-7, 3)"), ("zooming", "explorer.zoom(1.006, 30, 20)")):
-        told = page.js(FRAMES % step)
-        print(f"explore: {page.browser.name}: {name}: {told[0]:.1f} frames a second, the longest after {told[1]:.0f} ms")
-
-
-FRAMES = """new Promise(done => { const gaps = []; let last = performance.now(), count = 0;
-  const step = now => { gaps.push(now - last); last = now; %s; if (++count < 150) requestAnimationFrame(step);
-    else done([1000 / (gaps.slice(5).reduce((a, b) => a + b) / (gaps.length - 5)), Math.max(...gaps.slice(5))]); };
-  requestAnimationFrame(step); })"""
+    rows = [page.js("asked.again()") for _ in range(15)]
+    for what, column in (("of a worker", 0), ("until it is shown", 1)):
+        spent = sorted(row[column] for row in rows)
+        print(f"explore: {name}: 20,000 rhombs in 1600 x 1000: {spent[0]:.0f} to {spent[7]:.0f} ms {what}")
+    for what, step in (("panning", "explorer.move(-7, 3)"), ("zooming", "explorer.zoom(1.006, 30, 20)")):
+        told = page.js(f"asked.frames(() => {step})")
+        print(f"explore: {name}: {what}: {told[0]:.1f} frames a second, the longest after {told[1]:.0f} ms")
 
 
 def pictures(page, folder):

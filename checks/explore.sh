@@ -1,8 +1,9 @@
 #!/bin/sh
-# Opens docs/explore.html from its folder in browsers without a screen, Chromium and Firefox, and holds what it shows against
-# the program: addresses, neighbours, stars, windows, refusals of rule files; drags, pinches, wheel and keys; what it saves
-# and copies; and that nothing sticks out on a desk, a laptop and a phone. Before that it compares the page with what
-# packaging/make_page.py makes of js/ and rules/. Ends with 1 if something differs.
+# Opens docs/explore.html from its folder in browsers without a screen, Chromium and Firefox, and holds what
+# it shows against the program: addresses, neighbours, stars, windows, refusals of rule files; drags,
+# pinches, wheel and keys; what it saves and copies; and that nothing sticks out on a desk, a laptop and a
+# phone. Before that it compares the page with what packaging/make_page.py makes of js/ and rules/. Ends
+# with 1 if something differs.
 # `explore.sh --pictures FOLDER` keeps pictures of the page too, and `--times` prints how fast it is.
 . "$(dirname "$0")/needs"
 need program

@@ -1,14 +1,15 @@
 #!/usr/bin/env python3
-"""Makes docs/explore.html, the page that needs nothing else: from js/explore.html with its scripts and styles, the rule
-files of rules/, and the engine.
+"""Makes docs/explore.html, the page that needs nothing else: from js/explore.html with its scripts and
+styles, the rule files of rules/, and the engine.
 
-    make_page.py [--wasm FILE] [--sources HEX] [--to PAGE]    the engine is .tiling/tiling.wasm, or that of the page there;
-                                                              HEX is what packaging/make_wasm.sh --sources prints
-    make_page.py --check                                      ends with 1 if docs/explore.html isn't what this makes of
-                                                              js/, rules/ and the engine inside of it
+    make_page.py [--wasm FILE] [--sources HEX] [--to PAGE]
+        the engine is FILE, .tiling/tiling.wasm, or that of the page there; HEX is what
+        packaging/make_wasm.sh --sources prints
+    make_page.py --check
+        ends with 1 if docs/explore.html isn't what this makes of js/, rules/ and the engine inside of it
 
-Each module becomes a function that returns what it exports, so that names of two modules never meet. The worker is no
-module, since browsers start none from a page that was opened from a folder."""
+Each module becomes a function that returns what it exports, so that names of two modules never meet. The
+worker is no module, since browsers start none from a page that was opened from a folder."""
 import argparse
 import base64
 import gzip
@@ -81,13 +82,15 @@ def rule_files():
 
 def page(engine, sources):
     """The page, with an engine that is packed already."""
+    rules = json.dumps(rule_files()).replace("<", "\\u003c")
+    worker, main = (Bundle(f"js/explore/{name}.js").text() for name in ("worker/worker", "main"))
     parts = {
         "<!-- sources -->": f'<meta name="tiling-sources" content="{sources}">',
-        '<link rel="stylesheet" href="explore/style.css">': f"<style>\n{read('js', 'explore', 'style.css')}</style>",
-        "<!-- rules -->": f'<script type="application/json" id="rules">{json.dumps(rule_files()).replace("<", chr(92) + "u003c")}</script>',
+        "<!-- style -->": f"<style>\n{read('js', 'explore', 'style.css')}</style>",
+        "<!-- rules -->": f'<script type="application/json" id="rules">{rules}</script>',
         "<!-- engine -->": f'<script id="tiling-wasm" type="text/plain" data-form="gzip">{engine}</script>',
-        "<!-- worker: explore/worker/worker.js -->": f'<script id="worker-code" type="text/plain">\n{Bundle("js/explore/worker/worker.js").text()}</script>',
-        '<script type="module" src="explore/main.js"></script>': f'<script type="module">\n{Bundle("js/explore/main.js").text()}</script>',
+        "<!-- worker -->": f'<script id="worker-code" type="text/plain">\n{worker}</script>',
+        "<!-- main -->": f'<script type="module">\n{main}</script>',
     }
     text = read("js", "explore.html")
     for mark, part in parts.items():
@@ -128,7 +131,9 @@ def sources_of(given, path):
 
 
 def options():
-    parser = argparse.ArgumentParser(description=__doc__, formatter_class=argparse.RawDescriptionHelpFormatter)
+    parser = argparse.ArgumentParser(
+        description=__doc__, formatter_class=argparse.RawDescriptionHelpFormatter
+    )
     parser.add_argument("--wasm", metavar="FILE")
     parser.add_argument("--sources", metavar="HEX")
     parser.add_argument("--to", metavar="PAGE", default=PAGE)
@@ -136,7 +141,7 @@ def options():
     return parser.parse_args()
 
 
-def main():
+def run():
     asked = options()
     if asked.check:
         if page(inside(ENGINE), inside(SOURCES)) == read("docs", "explore.html"):
@@ -152,6 +157,6 @@ def main():
 
 if __name__ == "__main__":
     try:
-        sys.exit(main())
+        sys.exit(run())
     except (Trouble, OSError, subprocess.CalledProcessError) as trouble:
         sys.exit(f"make_page: {trouble}")

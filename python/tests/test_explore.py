@@ -50,7 +50,9 @@ def test_a_rule_file_of_ones_own(tmp_path):
 
 def test_no_such_rule():
     told = ran("nonsense", "--print")
-    assert told.returncode == 1 and re.match("python3 -m pagnetuf explore: there is no tiling nonsense", told.stderr)
+    assert told.returncode == 1 and re.match(
+        "python3 -m pagnetuf explore: there is no tiling nonsense", told.stderr
+    )
 
 
 def test_the_browser_is_given_the_address(tmp_path):

@@ -4,9 +4,9 @@
   python3 -m pagnetuf explore sphinx --seed 3 --at 1000,-7,0,0
   python3 -m pagnetuf explore my_rule.toml --print
 
-The page is one file, docs/explore.html. It has the engine and all rule files inside, and needs no network. The
-address of the page is printed too, for a browser of your choice; it has the view, and the text of a rule file
-of your own."""
+The page is one file, docs/explore.html. It has the engine and all rule files inside, and needs no network.
+The address of the page is printed too, for a browser of your choice; it has the view, and the text of a
+rule file of your own."""
 import base64
 import os
 import pathlib
@@ -23,7 +23,10 @@ MOST_FILE = 1 << 16  # bytes of a rule file in an address
 
 def add_words(parser):
     parser.add_argument(
-        "rule", nargs="?", default="p3", help="p2, p3, ab, chair, halfhex, a rule file, or the name of one in rules/"
+        "rule",
+        nargs="?",
+        default="p3",
+        help="p2, p3, ab, chair, halfhex, a rule file, or the name of one in rules/",
     )
     add_frame(parser)
     parser.add_argument("--print", action="store_true", help="only print the address")
@@ -49,7 +52,12 @@ def page() -> str:
 def view(options) -> str:
     """What the page reads behind the # of its address."""
     frame = frame_of(options)
-    words = {"seed": str(frame.seed), "base": frame.base, "at": ",".join(map(str, options.at)), **tiling(options.rule)}
+    words = {
+        "seed": str(frame.seed),
+        "base": frame.base,
+        "at": ",".join(map(str, options.at)),
+        **tiling(options.rule),
+    }
     return "&".join(f"{name}={quote(value, ',:/')}" for name, value in words.items())
 
 
@@ -62,7 +70,9 @@ def tiling(name: str) -> dict:
         with open(path, "rb") as file:
             data = file.read(MOST_FILE + 1)
     except OSError as trouble:
-        raise Trouble(f"there is no tiling {name}, and no file {name} can be read ({trouble.strerror})") from trouble
+        raise Trouble(
+            f"there is no tiling {name}, and no file {name} can be read ({trouble.strerror})"
+        ) from trouble
     if len(data) > MOST_FILE:
         raise Trouble(f"{name} is too long for an address of the page: drop it on the page")
     own = re.sub(r"[^\w.()+-]", "_", os.path.basename(path))[:80]
