@@ -253,14 +253,14 @@ export class Raster {
   }
 }
 
-/** A colour between two, `part` of 256 towards the second. */
+/** A colour between two, `part` of 256 towards the second. Red and blue are mixed at once; what the product
+ * has above 32
+ * bits would be cut off anyway. */
 function mixed(one, two, part) {
   const odd = one & 0xff00ff, even = (one >> 8) & 0xff;
-  return (
-    0xff000000 |
-    ((odd + ((((two & 0xff00ff) - odd) * part) >> 8)) & 0xff00ff) |
-    ((even + (((((two >> 8) & 0xff) - even) * part) >> 8)) << 8)
-  );
+  const nextOdd = odd + (Math.imul((two & 0xff00ff) - odd, part) >> 8);
+  const nextEven = even + (Math.imul(((two >> 8) & 0xff) - even, part) >> 8);
+  return 0xff000000 | (nextOdd & 0xff00ff) | (nextEven << 8);
 }
 
 /** What a line is drawn with: its width in pixels, its colour, and its strength from 0 to 256. */
