@@ -308,6 +308,24 @@ def try_stars(page):
         page.same("tiles of the star", page.js("explorer.marks.kept.star.tiles.length"), len(lines))
 
 
+def try_supertiles(page):
+    """The supertile of a tile has exactly the tiles whose addresses go on alike, by the program's list."""
+    for name, level, seed in (("penrose_p3", 3, 4), ("chair", 2, 0), ("sphinx", 2, 7), ("half_square_turned", 5, 1)):
+        page.open(tiling=name, tiles="halves", seed=seed, scale=50, level=level)
+        deep = call(name, "walk", "addr=0:", f"seed={seed}", "grow=12").split()[-2]
+        known = listing(name, seed, (0, 0, 0, 0), (16, 10), False, deep)
+        (x, y), point = page.middle(), complex(11, -17) / 50
+        own = next(it for it in known if any(inside_loosely(polygon, point) for polygon in it.polygons))
+        page.browser.click(x + 11, y + 17)
+        page.wait("explorer.marks.supertile.length === 1")
+        outline = [complex(*it) for it in page.js("explorer.marks.supertile[0]")][:-1]
+        digits = [it.name.partition(":")[2].split(",")[level:] for it in (own, *known)]
+        page.true("tiles of the supertile are known", digits[1:].count(digits[0]) > 2)
+        for tile, theirs in zip(known, digits[1:]):
+            middle = rule_file.centre(tile.polygons[0])
+            page.same(f"{tile.name} is in the supertile", inside_loosely(outline, middle), theirs == digits[0])
+
+
 def try_hands(page):
     """Drag, wheel and fingers move and zoom, and what is under them stays there."""
     page.open(tiling="penrose_p3", scale=50)
@@ -569,6 +587,7 @@ ALL = (
     try_start,
     try_tiles,
     try_stars,
+    try_supertiles,
     try_hands,
     try_fingers,
     try_keys,

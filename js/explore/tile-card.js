@@ -19,6 +19,7 @@ export class TileCard {
     const tile = kept ?? pointed;
     this.element.hidden = !tile;
     this.element.classList.toggle("brief", !kept);
+    this.element.setAttribute("aria-live", kept ? "polite" : "off");
     if (!tile) return;
     byId("tile-title").textContent = tileName(this.app.state.tiling, tile.kind, this.app.state.isWhole);
     byId("tile-body").replaceChildren(
