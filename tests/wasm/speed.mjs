@@ -1,0 +1,45 @@
+// How long tiling.wasm takes for what speed.c measures, in Node: node tests/wasm/speed.mjs WASM ROUNDS. A page has this
+// file's text without its exports and without its last lines; see speed.sh.
+
+export async function measured(bytes, rounds) {
+  const begin = performance.now();
+  const module = await WebAssembly.compile(bytes);
+  const compiled = performance.now() - begin;
+  const { exports } = await WebAssembly.instantiate(module, {}), most = 200000;
+  const [slot, text, frame, window, tiles, addrs, tile] = [16, 16, 144, 40, 40 * most, 130 * most, 40].map((size) => exports.take(size) >>> 0);
+  const u8 = new Uint8Array(exports.memory.buffer), u32 = new Uint32Array(exports.memory.buffer);
+  u8.set([112, 51], text);
+  exports.tiling_open(text, 2, slot);
+  const machine = u32[slot >> 2];
+  u8.fill(0, frame, frame + 144);
+  u8.fill(0, window, window + 40);
+  u8.set([5, 1, 5, 1], window + 32); // 261, 261
+  const named = () => exports.tiling_cover(machine, frame, window, tiles, most, addrs, most, slot);
+  named();
+  const count = u32[slot >> 2];
+  const calls = {
+    cover: () => exports.tiling_cover(machine, frame, window, tiles, most, addrs, 0, slot),
+    named,
+    neighbour: () => {
+      for (let i = 0, at = addrs; i < count; i++, at += 130) exports.tiling_neighbour(machine, at, i & 3, slot, slot + 1);
+    },
+    place: () => {
+      for (let i = 0, at = addrs; i < count; i++, at += 130) exports.tiling_place(machine, at, tile);
+    },
+  };
+  const median = (call) => {
+    const times = Array.from({ length: rounds }, () => {
+      named();
+      const begun = performance.now();
+      call();
+      return performance.now() - begun;
+    });
+    return times.sort((a, b) => a - b)[rounds >> 1];
+  };
+  const [cover, withNames, across, placed] = Object.values(calls).map(median);
+  const each = (time) => ((time * 1e6) / count).toFixed(1);
+  return `${count} tiles; cover ${cover.toFixed(2)} ms, with addresses ${withNames.toFixed(2)} ms; neighbour ${each(across)} ns, place ${each(placed)} ns; compiled in ${compiled.toFixed(1)} ms`;
+}
+
+const { readFileSync } = await import("node:fs");
+console.log(`Node: ${await measured(readFileSync(process.argv[2]), Number(process.argv[3] ?? 15))}`);
