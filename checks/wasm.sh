@@ -15,6 +15,7 @@ archive=${TILING_ARCHIVE:-$top/.tiling/libtiling.a}
 rounds=${ROUNDS:-1000000}
 page=$top/docs/explore.html
 fault=0
+export PYTHONDONTWRITEBYTECODE=1
 
 say() { echo "wasm: $*" >&2; }
 failed() { say "$*"; fault=1; }
@@ -105,6 +106,12 @@ for browser in chromium firefox; do compare_browser $browser || failed "$browser
 
 gcc -O2 -o "$work/int128" "$tests/int128.c" && "$work/int128" > /dev/null || failed 'wasm/int128.c differs from the compiler'
 TILING_WASM=$wasm node --test "$tests" > "$work/tests" 2>&1 || { grep -A 30 '^not ok\|failureType' "$work/tests" | head -n 60 >&2; failed 'tests fail'; }
+"$python" "$tests/example.py" "$top" "$wasm" 2> "$work/example.log"
+case $? in
+0) ;;
+77) say 'left out: the page of docs/JAVASCRIPT.md, since chromium cannot be driven' ;;
+*) tail -n 3 "$work/example.log" >&2; failed 'the page of docs/JAVASCRIPT.md' ;;
+esac
 if has tsc; then
     tsc --noEmit --strict --target es2021 --module es2020 --lib es2021,dom "$tests/use.ts" >&2 || failed 'the types differ'
 else

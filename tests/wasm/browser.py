@@ -126,4 +126,5 @@ def main():
     sys.exit(0 if text.endswith("END\n") else 1)
 
 
-main()
+if __name__ == "__main__":
+    main()

@@ -66,7 +66,7 @@ export function joined(pieces) {
 // The random calls: random.wasm lies in the memory of the engine, from 16 MiB on, and calls its exports.
 export async function randomReport(engine, random, files, rounds) {
   const { exports, u8, taken, put } = engine, begin = 16 << 20, end = 32 << 20;
-  if (taken(end) + end < end || engine.exports.memory.buffer.byteLength < end) throw new Error("no place for random.wasm");
+  if (taken(end) > begin) throw new Error("there is no place for random.wasm");
   const { instance } = await WebAssembly.instantiate(random, { env: exports });
   for (const file of files) instance.exports.give_file(put(file), file.length);
   const at = instance.exports.run(rounds), bytes = u8();

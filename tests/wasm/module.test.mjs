@@ -23,6 +23,7 @@ const refusalOf = (call) => {
   return assert.fail("nothing was refused");
 };
 const near = (a, b, off = 1e-9) => assert.ok(Math.abs(a - b) <= off, `${a} is not ${b}`);
+const same = (a, b) => a.kind === b.kind && a.turn === b.turn && a.shift.join() === b.shift.join();
 const area = (polygon) =>
   polygon.reduce((sum, [x, y], i) => {
     const [u, v] = polygon[(i + 1) % polygon.length];
@@ -145,15 +146,17 @@ test("a window's tiles are those of `draw`, for every rule", () => {
   }
 });
 
-// The polygons of a patch, beside those of the engine's own picture: 2000 x, and 1000 y / sin(360°/order).
+// The polygons of a patch, beside those of the engine's own picture, which rounds 2000 x and 1000 y / sin(360°/order) from
+// its centre down.
 function drawnAlike(tiling, patch, place, whole) {
   const paths = tiling.draw({ ...place, layers: ["svg"], whole }).matchAll(/ d="M([^"]*)Z"/g), sine = Math.sin((2 * Math.PI) / tiling.order);
+  const [left, low] = tiling.xy(place.at);
   let count = 0;
   for (const [i, [, path]] of [...paths].entries()) {
     const corners = path.split("L").map((it) => it.split(" ").map(Number));
-    const found = patch.polygon(i).map(([x, y]) => [2000 * x, (1000 * y) / sine]);
+    const found = patch.polygon(i).map(([x, y]) => [2000 * (x - left), (1000 * (y - low)) / sine]);
     assert.equal(found.length, corners.length);
-    corners.forEach(([x, y], corner) => near(found[corner][0], x, 0.6) ?? near(found[corner][1], y, 0.6));
+    corners.forEach(([x, y], corner) => near(found[corner][0], x, 1.001) ?? near(found[corner][1], y, 1.001));
     count++;
   }
   assert.equal(count, patch.length);
@@ -214,19 +217,22 @@ test("shares of tiles", () => {
   near(share(beenker, 0), Math.SQRT2 / (1 + Math.SQRT2), 0.005); // (rhombs to squares is as the root of 2)
 });
 
-test("perpendicular space: a pentagon of radius phi, an octagon of width 1 + root 2", () => {
-  const patch = p3.window({ half: [60, 50] }).whole(), places = patch.perpendicular(), vertices = patch.vertices();
-  const classes = new Map();
+test("perpendicular space: pentagons of radius 1 and phi, an octagon of width 1 + root 2", () => {
+  const patch = p3.window({ half: [130, 130] }).whole(), places = patch.perpendicular(), vertices = patch.vertices();
+  const classes = [[], [], [], [], []];
   for (let i = 0; i < places.length / 2; i++) {
-    const name = (((vertices[4 * i] - vertices[4 * i + 1] + vertices[4 * i + 2] - vertices[4 * i + 3]) % 5) + 5) % 5;
-    classes.set(name, [...(classes.get(name) ?? []), [places[2 * i], places[2 * i + 1]]]);
+    const sum = vertices[4 * i] - vertices[4 * i + 1] + vertices[4 * i + 2] - vertices[4 * i + 3];
+    classes[((sum % 5) + 5) % 5].push([places[2 * i], places[2 * i + 1]]);
   }
-  assert.equal(classes.size, 4);
-  const widths = [...classes.values()].map((some) => Math.max(...some.map(([x]) => x)) - Math.min(...some.map(([x]) => x))).sort((a, b) => a - b);
-  // (a regular pentagon of radius r is r (1 + cos 36°) wide)
-  const wide = 1 + Math.cos(Math.PI / 5);
-  [1, 1, GOLDEN, GOLDEN].forEach((radius, i) => near(widths[i], radius * wide, 0.08));
-  const octagon = ab.window({ half: [60, 50] }).whole().perpendicular().filter((_, i) => i % 2 === 0);
+  const mean = (list) => list.reduce((sum, it) => sum + it, 0) / list.length;
+  const radius = (some) => {
+    const [x, y] = [mean(some.map((it) => it[0])), mean(some.map((it) => it[1]))];
+    return Math.max(...some.map(([u, v]) => Math.hypot(u - x, v - y)));
+  };
+  const radii = classes.filter((some) => some.length).map(radius).sort((a, b) => a - b);
+  assert.equal(radii.length, 4);
+  [1, 1, GOLDEN, GOLDEN].forEach((wanted, i) => near(radii[i], wanted, 0.03));
+  const octagon = ab.window({ half: [120, 110] }).whole().perpendicular().filter((_, i) => i % 2 === 0);
   near(Math.max(...octagon) - Math.min(...octagon), 1 + Math.SQRT2, 0.06);
   assert.throws(() => chair.window().perpendicular(), TypeError);
 });
@@ -246,7 +252,7 @@ test("factors", () => {
 test("supertiles: each tile lies in one, whose area is that of its tiles", () => {
   const sphinx = engine.open(ruleText("sphinx")), turned = engine.open(ruleText("half_square_two"));
   for (const [tiling, level] of [[chair, 1], [chair, 3], [p3, 2], [p2, 3], [ab, 1], [halfhex, 2], [sphinx, 2], [turned, 3]]) {
-    const window = tiling.window({ half: [12, 10], seed: 8 }), supertiles = window.supertiles(level);
+    const window = tiling.window({ half: [30, 24], seed: 8 }), supertiles = window.supertiles(level);
     assert.ok(supertiles.length > 1 && supertiles.length < window.length);
     const middles = window.middles(), inside = new Float64Array(supertiles.length), tiles = areas(window);
     for (let i = 0; i < window.length; i++) {
@@ -280,14 +286,15 @@ test("points and lengths", () => {
 });
 
 test("the tile at a point", () => {
-  const window = p3.window({ half: [15, 9], seed: 77 });
-  for (let x = -6; x <= 6; x += 1.37) {
-    const point = p3.pointNear(x, x / 2), found = p3.tileAt(point, { seed: 77 }), [u, v] = p3.xy(point);
-    const tile = Array.from({ length: window.length }, (_, i) => i).find((i) => found.address.startsWith(window.address(i)) || window.address(i).startsWith(found.address));
-    assert.ok(tile >= 0);
-    near(Math.abs(area(window.polygon(tile))), Math.abs(areas(window)[tile]));
-    const polygon = window.polygon(tile), least = Math.min(...polygon.map(([a, b]) => Math.hypot(a - u, b - v)));
-    assert.ok(least < 2);
+  for (const tiling of [chair, p2, p3, ab, halfhex]) {
+    const window = tiling.window({ half: [15, 9], seed: 77 });
+    for (let x = -6; x <= 6; x += 1.37) {
+      const point = tiling.pointNear(x, x / 2), [u, v] = tiling.xy(point), { address, ...tile } = tiling.tileAt(point, { seed: 77 });
+      const number = Array.from({ length: window.length }, (_, i) => i).find((i) => same(window.tile(i), tile));
+      assert.ok(number >= 0 && window.address(number).startsWith(address));
+      assert.ok(window.find(u, v) >= 0);
+      assert.equal(window.chosen([number]).find(u, v), 0);
+    }
   }
   const top = { kind: 0, turn: 0, shift: [0, 0, 0, 0] };
   assert.equal(chair.locate(top, 1, [1, 1, 0, 0]).kind, 0);

@@ -16,7 +16,7 @@ gcc -std=c11 -Wall -Wextra -O2 -I "$top/include" -o "$work/speed" "$tests/speed.
     echo '<!doctype html><meta charset="utf-8"><pre></pre><script type="module">'
     sed -e 's/^export //' -e '/^const { readFileSync }/,$d' "$tests/speed.mjs"
     echo "const wasm = Uint8Array.from(atob('$(base64 -w 0 "$wasm")'), (letter) => letter.charCodeAt(0));"
-    echo "document.querySelector('pre').textContent = (await measured(wasm, $rounds)) + '\\nEND\\n';"
+    printf '%s\n' "document.querySelector('pre').textContent = (await measured(wasm, $rounds)) + '\\nEND\\n';"
     echo '</script>'
 } > "$work/page.html"
 python=python3
