@@ -30,7 +30,8 @@ const SENTENCES = {
   StarTooBig: "more than 64 tiles have the vertex",
   BadListing: "the listing is not that of the window",
 };
-const OK = 0, RULE_REFUSED = 3, BAD_ADDRESS = 4, OUTSIDE = 8, NO_MEMORY = 11, NO_EDGE = 12, NO_VERTEX = 15, BAD_LISTING = 17;
+const OK = 0, NOT_TEXT = 1, RULE_REFUSED = 3, BAD_ADDRESS = 4, OUTSIDE = 8;
+const NO_MEMORY = 11, NO_EDGE = 12, NO_VERTEX = 15, BAD_LISTING = 17;
 const RELATIONS = ["strangers", "same", "apart", "beside"];
 const FAULTS = ["", "NoTile", "NotOfFrame", "Double", "Missing", "WrongPlace", "Stray"];
 const MISSING = 4, NO_BACK = 255;
@@ -79,13 +80,16 @@ function fourOf(point, what) {
 
 // The two halves of a seed, as numbers of 32 bits.
 function halvesOf(seed) {
-  if (typeof seed === "number" && Number.isSafeInteger(seed) && seed >= 0) return [seed >>> 0, Math.floor(seed / 2 ** 32)];
+  if (Number.isSafeInteger(seed) && seed >= 0) return [seed >>> 0, Math.floor(seed / 2 ** 32)];
   const isHalf = (it) => Number.isInteger(it) && it >= 0 && it < 2 ** 32;
   if (seed?.length === 2 && isHalf(seed[0]) && isHalf(seed[1])) return [seed[0], seed[1]];
-  throw new TypeError("a seed is a whole number from 0 to 2^53 - 1, or a pair of numbers of 32 bits, the low one first");
+  throw new TypeError("a seed is a whole number from 0 to 2^53 - 1, or its halves of 32 bits, the low one first");
 }
 
-const seedText = (seed) => (typeof seed === "number" ? String(seed) : String((BigInt(seed[1]) << 32n) + BigInt(seed[0])));
+function seedText(seed) {
+  const [low, high] = halvesOf(seed);
+  return String((BigInt(high) << 32n) + BigInt(low));
+}
 
 function halfOf(half) {
   if (half?.length !== 2) throw new TypeError("half has two whole numbers");
@@ -97,16 +101,13 @@ const isBytes = (address) => address instanceof Uint8Array;
 // The text of an address as people gave it, for the line of a refusal; "" where none can be written.
 function textOf(address) {
   if (typeof address === "string") return address;
-  const [kind, pairs] = isBytes(address) ? [address[0], pairsOf(address)] : [address?.kind, (address?.digits ?? []).map((it) => [it.child, it.parent])];
-  return `${kind}:${pairs.map(([child, parent]) => `${child}/${parent}`).join(",")}`;
-}
-
-function pairsOf(bytes) {
-  return Array.from({ length: Math.min(bytes[1], MOST_DIGITS) }, (_, i) => [bytes[2 + 2 * i], bytes[3 + 2 * i]]);
+  const { kind, digits } = isBytes(address) ? objectOf(address) : address;
+  return `${kind}:${digits.map(({ child, parent }) => `${child}/${parent}`).join()}`;
 }
 
 function objectOf(bytes) {
-  return { kind: bytes[0], digits: pairsOf(bytes).map(([child, parent]) => ({ child, parent })) };
+  const digit = (_, i) => ({ child: bytes[2 + 2 * i], parent: bytes[3 + 2 * i] });
+  return { kind: bytes[0], digits: Array.from({ length: Math.min(bytes[1], MOST_DIGITS) }, digit) };
 }
 
 // ---- an instance and its memory ---------------------------------------------------------------------------------
@@ -409,7 +410,8 @@ export class Engine {
 
   async openFile(file) {
     const isName = typeof file === "string" && /^\w+$/.test(file);
-    return this.open(isName ? await bytesOfFirst([`rules/${file}.toml`, `../rules/${file}.toml`]) : await bytesAt(file));
+    const places = [`rules/${file}.toml`, `../rules/${file}.toml`];
+    return this.open(isName ? await bytesOfFirst(places) : await bytesAt(file));
   }
 
   #openName(name) {
@@ -422,7 +424,7 @@ export class Engine {
 
   #openText(file) {
     if (!isBytes(file)) throw new TypeError("a rule is a name, or the text or the bytes of a rule file");
-    const memory = this.#memory, slot = memory.place("slot"), sizes = memory.place("sizes"), line = memory.place("text");
+    const memory = this.#memory, [slot, sizes, line] = ["slot", "sizes", "text"].map((name) => memory.place(name));
     const status = memory.borrow([file.length], (at) => {
       memory.bytes.set(file, at);
       return memory.calls.tiling_open_file(at, file.length, slot, line, LONGEST, sizes);
@@ -450,7 +452,7 @@ export class Engine {
     const memory = this.#memory, sizes = memory.place("sizes");
     const found = memory.borrow([room], (out) => {
       const status = memory.calls.tiling_call(...given, out, room, sizes, note, LONGEST, sizes + 8);
-      if (status === 1 || status === NO_MEMORY) throw new Refusal(`${status} ${NAMES[status]}`);
+      if (status === NOT_TEXT || status === NO_MEMORY) throw new Refusal(`${status} ${NAMES[status]}`);
       if (status) throw new Refusal(memory.text(note, memory.size(sizes + 8)).trim());
       const length = memory.size(sizes);
       return length > room ? length : memory.text(out, length);
@@ -624,7 +626,9 @@ export class Tiling {
       memory.bytes.set(address, at);
       return at;
     }
-    if (isBytes(address) || !address?.digits) throw new TypeError("an address is a text, an object with kind and digits, or 130 bytes");
+    if (isBytes(address) || !address?.digits) {
+      throw new TypeError("an address is a text, an object with kind and digits, or 130 bytes");
+    }
     const { bytes } = memory, { digits } = address;
     if (digits.length > MOST_DIGITS) throw new Refusal("4 BadAddress TooDeep");
     bytes[at] = small(address.kind, "a kind");
@@ -731,8 +735,9 @@ export class Tiling {
 
   locate(top, depth, point) {
     const memory = this.#memory, tile = memory.place("tile"), address = memory.place("address");
-    const given = memory.putTile(memory.place("top"), top), at = memory.putPoint(memory.place("point"), fourOf(point, "a point"));
-    const status = memory.calls.tiling_locate(this.#machine, given, small(depth, "a depth"), at, tile, address);
+    const given = memory.putTile(memory.place("top"), top), levels = small(depth, "a depth");
+    const at = memory.putPoint(memory.place("point"), fourOf(point, "a point"));
+    const status = memory.calls.tiling_locate(this.#machine, given, levels, at, tile, address);
     if (status) this.#refuse(status);
     return { ...memory.tile(tile), address: this.#text(address) };
   }
@@ -753,11 +758,12 @@ export class Tiling {
     if (edges?.length !== count) throw new TypeError(`there are ${count} addresses, so as many edges`);
     return memory.borrow([given.length, count, CROSSING * count], (from, by, to) => {
       memory.bytes.set(given, from);
-      memory.bytes.set(edges instanceof Uint8Array ? edges : Uint8Array.from(edges, (edge) => small(edge, "an edge")), by);
+      memory.bytes.set(edgesOf(edges), by);
       const status = memory.calls.tiling_neighbour_all(this.#machine, from, count, by, count, to, count);
       if (status) this.#refuse(status);
       const found = new Records(memory, to, count, CROSSING);
-      return { addresses: memory.copy(from, given.length), edges: found.column(1), parts: found.column(2), statuses: found.column(0) };
+      const [statuses, backs, parts] = [0, 1, 2].map((place) => found.column(place));
+      return { addresses: memory.copy(from, given.length), edges: backs, parts, statuses };
     });
   }
 
@@ -804,8 +810,10 @@ export class Tiling {
       const status = memory.calls.tiling_cover(...given, tiles, room, names, isNamed ? room : 0, sizes);
       if (status) this.#refuse(status, this.drawWords({ ...box, layers: ["census"] }));
       const count = memory.size(sizes);
-      if (count > room) room = Math.min(MOST_TILES, count + (count >> 2));
-      else return { tiles: memory.tiles.lend(count, TILE), names: isNamed ? memory.addresses.lend(count, ADDRESS) : null };
+      if (count <= room) {
+        return { tiles: memory.tiles.lend(count, TILE), names: isNamed ? memory.addresses.lend(count, ADDRESS) : null };
+      }
+      room = Math.min(MOST_TILES, count + (count >> 2));
     }
   }
 
@@ -820,7 +828,8 @@ export class Tiling {
     let room = Math.max(2048, Math.floor(memory.wholes.size / WHOLE));
     for (;;) {
       const wholes = memory.wholes.room(WHOLE * room);
-      const status = memory.calls.tiling_glue(this.#machine, this.#putFrame(box.base, box.seed), this.#putBox(box), wholes, room, sizes);
+      const given = [this.#machine, this.#putFrame(box.base, box.seed), this.#putBox(box)];
+      const status = memory.calls.tiling_glue(...given, wholes, room, sizes);
       if (status) this.#refuse(status, this.drawWords({ ...box, layers: ["census"], whole: true }));
       const count = memory.size(sizes);
       if (count <= room) return memory.wholes.lend(count, WHOLE);
@@ -838,28 +847,33 @@ export class Tiling {
   }
 
   walk(base, path, { seed = 0, grow = 0 } = {}) {
-    const memory = this.#memory, edges = Uint8Array.from(path, (edge) => small(edge, "an edge")), count = edges.length + 1;
-    return memory.borrow([edges.length, TILE * count, ADDRESS * count], (by, tiles, names) => {
+    const memory = this.#memory, edges = edgesOf(path), { length } = edges, count = length + 1;
+    return memory.borrow([length, TILE * count, ADDRESS * count], (by, tiles, names) => {
       memory.bytes.set(edges, by);
-      const frame = this.#putFrame(base, seed), levels = small(grow, "grow");
-      const status = memory.calls.tiling_walk(this.#machine, frame, levels, by, edges.length, tiles, count, names, count);
-      if (status) this.#refuse(status, ["walk", "rule", `addr=${textOf(base)}`, `seed=${seedText(seed)}`, `grow=${grow}`, ...(edges.length ? [`path=${Array.from(path).join()}`] : [])]);
-      return Array.from({ length: count }, (_, i) => this.#numbered(tiles + TILE * i, names + ADDRESS * i, base, i > 0));
+      const given = [this.#machine, this.#putFrame(base, seed), small(grow, "grow")];
+      const status = memory.calls.tiling_walk(...given, by, length, tiles, count, names, count);
+      if (status) this.#refuse(status, [...this.#frameWords("walk", base, seed), ...walkWords(grow, path)]);
+      const tile = (_, i) => this.#numbered(tiles + TILE * i, names + ADDRESS * i, base, i > 0);
+      return Array.from({ length: count }, tile);
     });
+  }
+
+  #frameWords(command, base, seed) {
+    return [command, "rule", `addr=${textOf(base)}`, `seed=${seedText(seed)}`];
   }
 
   star(base, vertex, { seed = 0 } = {}) {
     const memory = this.#memory, star = memory.place("star"), frame = this.#putFrame(base, seed);
     const status = memory.calls.tiling_star(this.#machine, frame, small(vertex, "a vertex"), star);
     if (status === NO_VERTEX) throw new Refusal(`15 NoVertex ${vertex} ${this.edges(memory.bytes[frame + 8])}`);
-    if (status) this.#refuse(status, ["star", "rule", `addr=${textOf(base)}`, `vertex=${vertex}`, `seed=${seedText(seed)}`]);
+    if (status) this.#refuse(status, [...this.#frameWords("star", base, seed), `vertex=${vertex}`]);
     return Array.from({ length: memory.bytes[star + IN_STAR.count] }, (_, i) =>
       this.#numbered(star + TILE * i, star + IN_STAR.addresses + ADDRESS * i, base, true));
   }
 
   #numbered(tile, address, form, hasNumber) {
-    const memory = this.#memory;
-    return { ...memory.tile(tile), address: this.#alike(form, address), number: hasNumber ? memory.bytes[tile + IN_TILE.number] : null };
+    const memory = this.#memory, number = hasNumber ? memory.bytes[tile + IN_TILE.number] : null;
+    return { ...memory.tile(tile), address: this.#alike(form, address), number };
   }
 
   verify(listing, { at = [0, 0, 0, 0], half = [20, 12], seed = 0, base = "0:" } = {}) {
@@ -889,28 +903,31 @@ export class Tiling {
     return this.engine.call(this.drawWords(options), this.#file ?? "");
   }
 
-  drawWords({ at = [0, 0, 0, 0], half = [20, 12], seed = 0, base = "0:", layers = ["svg"], whole: isWhole = false } = {}) {
-    halvesOf(seed);
+  drawWords(options = {}) {
+    const { at = [0, 0, 0, 0], half = [20, 12], seed = 0, base = "0:", layers = ["svg"] } = options;
     const place = [`seed=${seedText(seed)}`, `addr=${textOf(base)}`, `at=${fourOf(at, "at")}`, `half=${halfOf(half)}`];
-    return ["draw", `rule=${this.name}`, ...place, ...(isWhole && this.hasHalves ? ["glue=yes"] : []), `layers=${layers.join()}`];
+    const glue = options.whole && this.hasHalves ? ["glue=yes"] : [];
+    return ["draw", `rule=${this.name}`, ...place, ...glue, `layers=${layers.join()}`];
   }
 }
 
+const edgesOf = (list) => (isBytes(list) ? list : Uint8Array.from(list, (edge) => small(edge, "an edge")));
+const walkWords = (grow, path) => [`grow=${grow}`, ...(path.length ? [`path=${Array.from(path).join()}`] : [])];
 const faultLine = (fault, index) => `17 BadListing ${FAULTS[fault]}${fault === MISSING ? "" : ` ${index}`}`;
 
 // The factor of a rule, by two children one inside the other: a digit more multiplies where the tile lies by it.
 function factorOf(tiling) {
-  const fits = (kind, digits) => tiling.fits({ kind, digits });
+  const kinds = Array.from({ length: tiling.kinds }, (_, kind) => kind);
+  const kindOf = (digit) => kinds.find((kind) => tiling.fits({ kind, digits: [digit] }));
   for (let parent = 0; parent < tiling.kinds; parent++) {
     for (let child = 0; child < 256; child++) {
-      const digit = { child, parent };
-      const kind = Array.from({ length: tiling.kinds }, (_, it) => it).find((it) => fits(it, [digit]));
+      const digit = { child, parent }, kind = kindOf(digit);
       if (kind === undefined) break;
-      const inner = Array.from({ length: tiling.kinds }, (_, it) => it).find((it) => fits(it, [{ child: 0, parent: kind }]));
       const upper = tiling.place({ kind, digits: [digit] });
       if (!upper.shift.some((part) => part)) continue;
-      const first = { child: 0, parent: kind }, lower = tiling.place({ kind: inner, digits: [first] });
-      const both = tiling.place({ kind: inner, digits: [first, digit] }), moved = tiling.turnedPoint(lower.shift, upper.turn);
+      const first = { child: 0, parent: kind }, inner = kindOf(first);
+      const both = tiling.place({ kind: inner, digits: [first, digit] });
+      const moved = tiling.turnedPoint(tiling.place({ kind: inner, digits: [first] }).shift, upper.turn);
       return quotient(tiling, both.shift.map((part, i) => part - moved[i]), upper.shift);
     }
   }
@@ -923,7 +940,8 @@ function quotient(tiling, a, b) {
   const rows = Array.from({ length: size }, (_, k) => tiling.turnedPoint(b, k));
   const matrix = Array.from({ length: size }, (_, i) => [...rows.map((row) => row[i]), a[i]]);
   for (let column = 0; column < size; column++) {
-    const rest = matrix.slice(column), best = rest.reduce((x, y) => (Math.abs(y[column]) > Math.abs(x[column]) ? y : x));
+    const size = (row) => Math.abs(row[column]);
+    const best = matrix.slice(column).reduce((a, b) => (size(b) > size(a) ? b : a));
     matrix.splice(matrix.indexOf(best), 1);
     matrix.splice(column, 0, best);
     for (const row of matrix) {
@@ -1030,18 +1048,18 @@ export class Patch {
   }
 
   address(tile) {
-    const at = ADDRESS * this.#index(tile);
+    const at = ADDRESS * this.index(tile);
     return this.tiling.write(this.addresses.subarray(at, at + ADDRESS));
   }
 
   tile(tile) {
-    const i = this.#index(tile);
+    const i = this.index(tile);
     return { kind: this.kinds[i], turn: this.turns[i], shift: Array.from(this.shifts.subarray(4 * i, 4 * i + 4)) };
   }
 
-  #index(tile) {
-    if (!Number.isInteger(tile) || tile < 0 || tile >= this.length) throw new RangeError(`the tiles are 0 to ${this.length - 1}`);
-    return tile;
+  index(tile) {
+    if (Number.isInteger(tile) && tile >= 0 && tile < this.length) return tile;
+    throw new RangeError(`the tiles are 0 to ${this.length - 1}, and not ${String(tile)}`);
   }
 
   // ---- corners
@@ -1101,7 +1119,7 @@ export class Patch {
   }
 
   polygon(tile) {
-    const i = this.#index(tile), begin = 4 * i * this.most;
+    const i = this.index(tile), begin = 4 * i * this.most;
     const xy = this.tiling.xy(this.outlines().subarray(begin, begin + 4 * this.counts[i]));
     return Array.from({ length: this.counts[i] }, (_, corner) => [xy[2 * corner], xy[2 * corner + 1]]);
   }
@@ -1110,7 +1128,8 @@ export class Patch {
     return this.once("middles", () => {
       const { length, most, counts } = this, xy = this.xy(), out = new Float64Array(2 * length);
       for (let i = 0; i < length; i++) {
-        for (let corner = 2 * i * most; corner < 2 * (i * most + counts[i]); corner++) out[2 * i + (corner & 1)] += xy[corner] / counts[i];
+        const begin = 2 * i * most, end = begin + 2 * counts[i];
+        for (let spot = begin; spot < end; spot++) out[2 * i + (spot & 1)] += xy[spot] / counts[i];
       }
       return out;
     });
@@ -1125,10 +1144,11 @@ export class Patch {
       for (let i = 0; i < length; i++) {
         for (let spot = i * most; spot < i * most + counts[i]; spot++) corners[spot] = found.add(outlines, 4 * spot);
       }
-      const order = sortedPoints(found.keys()), vertices = new Int32Array(4 * order.length), number = new Int32Array(order.length);
+      const points = found.keys(), order = sortedPoints(points), number = new Int32Array(order.length);
+      const vertices = new Int32Array(points.length);
       order.forEach((from, to) => {
         number[from] = to;
-        vertices.set(found.keys().subarray(4 * from, 4 * from + 4), 4 * to);
+        vertices.set(points.subarray(4 * from, 4 * from + 4), 4 * to);
       });
       return { vertices, corners: corners.map((vertex) => (vertex < 0 ? -1 : number[vertex])) };
     });
@@ -1146,8 +1166,8 @@ export class Patch {
   #across() {
     return this.once("across", () => {
       const { length, most, counts } = this, corners = this.corners(), size = length * most;
-      const edges = new Int32Array(2 * size), back = new Int32Array(2), found = new Numbering(2, size), spotOf = new Int32Array(size);
-      const across = new Int32Array(size).fill(-1);
+      const edges = new Int32Array(2 * size), back = new Int32Array(2), found = new Numbering(2, size);
+      const spotOf = new Int32Array(size), across = new Int32Array(size).fill(-1);
       for (let spot = 0; spot < size; spot++) {
         const tile = (spot / most) | 0, edge = spot - tile * most;
         if (edge >= counts[tile]) continue;
@@ -1220,7 +1240,7 @@ export class Patch {
   }
 
   chosen(tiles) {
-    const list = Int32Array.from(tiles, (tile) => this.#index(tile));
+    const list = Int32Array.from(tiles, (tile) => this.index(tile));
     return new Patch(HIDDEN, this.tiling, list.length, chosenRows(this, this.#rows, list), this.origin);
   }
 
@@ -1243,17 +1263,19 @@ export class Patch {
   }
 }
 
+// The entries of some tiles, each of so many numbers.
+function picked(array, width, list) {
+  const out = new array.constructor(width * list.length);
+  list.forEach((tile, i) => out.set(array.subarray(width * tile, width * (tile + 1)), width * i));
+  return out;
+}
+
 function chosenRows(patch, rows, list) {
-  const pick = (array, width) => {
-    const out = new array.constructor(width * list.length);
-    list.forEach((tile, i) => out.set(array.subarray(width * tile, width * (tile + 1)), width * i));
-    return out;
-  };
   return {
-    kinds: () => pick(patch.kinds, 1),
-    turns: () => pick(patch.turns, 1),
-    shifts: () => pick(patch.shifts, 4),
-    addresses: rows.addresses && (() => pick(patch.addresses, ADDRESS)),
+    kinds: () => picked(patch.kinds, 1, list),
+    turns: () => picked(patch.turns, 1, list),
+    shifts: () => picked(patch.shifts, 4, list),
+    addresses: rows.addresses && (() => picked(patch.addresses, ADDRESS, list)),
     shape: rows.shape,
   };
 }
@@ -1262,8 +1284,9 @@ function chosenRows(patch, rows, list) {
 function sortedPoints(points) {
   const order = Uint32Array.from({ length: points.length >> 2 }, (_, i) => i);
   return order.sort((a, b) => {
-    for (let i = 0; i < 4; i++) if (points[4 * a + i] !== points[4 * b + i]) return points[4 * a + i] - points[4 * b + i];
-    return 0;
+    let i = 0;
+    while (i < 3 && points[4 * a + i] === points[4 * b + i]) i++;
+    return points[4 * a + i] - points[4 * b + i];
   });
 }
 
@@ -1323,7 +1346,8 @@ function leastTurn(list) {
 
 // The most frequent star first, and the labels accordingly.
 function inOrder(found, labels, most) {
-  const order = found.map((_, i) => i).sort((a, b) => found[b].count - found[a].count || compareLists(found[a].star, found[b].star));
+  const compare = (a, b) => found[b].count - found[a].count || compareLists(found[a].star, found[b].star);
+  const order = found.map((_, i) => i).sort(compare);
   const place = new Int32Array(order.length);
   order.forEach((from, to) => (place[from] = to));
   const stars = order.map((i) => ({
@@ -1359,7 +1383,8 @@ export class Window extends Patch {
   }
 
   whole() {
-    return new WholePatch(HIDDEN, this.tiling, wholeRows(this.tiling.glued(HIDDEN, this.#box)), { ...this.#box, whole: true });
+    const rows = wholeRows(this.tiling.glued(HIDDEN, this.#box));
+    return new WholePatch(HIDDEN, this.tiling, rows, { ...this.#box, whole: true });
   }
 
   free() {
@@ -1436,12 +1461,11 @@ export class WholePatch extends Patch {
   }
 
   chosen(tiles) {
-    const list = Array.from(tiles), rows = { length: list.length };
-    const pick = (array, width) => array.constructor.from({ length: width * list.length }, (_, i) => array[width * list[(i / width) | 0] + (i % width)]);
+    const list = Int32Array.from(tiles, (tile) => this.index(tile)), rows = { length: list.length };
     for (const [name, make] of Object.entries(this.#rows)) {
       const width = /addresses/i.test(name) ? ADDRESS : /shifts/i.test(name) ? 4 : 1;
       let kept;
-      if (name !== "length") rows[name] = () => (kept ??= pick(make(), width));
+      if (name !== "length") rows[name] = () => (kept ??= picked(make(), width, list));
     }
     return new WholePatch(HIDDEN, this.tiling, rows, this.origin);
   }
@@ -1452,7 +1476,8 @@ export class WholePatch extends Patch {
 function nearestConnected(patch, count, x, y) {
   const { most, counts, length } = patch, near = patch.neighbours(), middles = patch.middles();
   // (rounded, so that tiles at one distance come in the order of the patch)
-  const far = Float64Array.from({ length }, (_, i) => Math.round(((middles[2 * i] - x) ** 2 + (middles[2 * i + 1] - y) ** 2) * 1e9));
+  const distance = (i) => (middles[2 * i] - x) ** 2 + (middles[2 * i + 1] - y) ** 2;
+  const far = Float64Array.from({ length }, (_, i) => Math.round(1e9 * distance(i)));
   const waiting = new Heap((a, b) => far[a] - far[b] || a - b), seen = new Uint8Array(length), chosen = [];
   const wait = (tile) => {
     seen[tile] = 1;
@@ -1518,7 +1543,8 @@ function supertilesOf(patch, level) {
     low.push(digitsOf(address, 0, level));
     high.push(digitsOf(address, level, address[1]));
   }
-  const places = tiling.placeAll(joined(low)), seen = new Set(), rows = { kinds: [], turns: [], shifts: [], addresses: [] };
+  const places = tiling.placeAll(joined(low)), seen = new Set();
+  const rows = { kinds: [], turns: [], shifts: [], addresses: [] };
   from.forEach((tile, i) => {
     if (places.statuses[i]) throw new Refusal(`${places.statuses[i]} ${NAMES[places.statuses[i]]}`);
     const turn = (patch.turns[tile] - places.turns[i] + tiling.order) % tiling.order;
@@ -1545,7 +1571,7 @@ function supertileRows(tiling, level, rows) {
     shape: (kind, turn) => {
       const corners = tiling.turned(kind, turn), out = [];
       for (let i = 0; i < corners.length; i += 4) out.push(...tiling.product(corners.subarray(i, i + 4), scale));
-      if (out.some((part) => Math.abs(part) > 2 ** 30)) throw new RangeError("these supertiles are too large for numbers of 32 bits");
+      if (out.some((part) => Math.abs(part) > 2 ** 30)) throw new RangeError("these supertiles are too large");
       return Int32Array.from(out);
     },
   };
@@ -1598,37 +1624,48 @@ function boardOf(patch) {
   };
 }
 
-const COLOURS = ["#1f5f7a", "#8ecae6", "#f2e9d8", "#3a9a9c", "#f4b860", "#8e3b5e", "#d9694a", "#6b8e4e", "#c9a9d0", "#2b3a55"];
+const COLOURS = [
+  "#1f5f7a", "#8ecae6", "#f2e9d8", "#3a9a9c", "#f4b860", "#8e3b5e", "#d9694a", "#6b8e4e",
+  "#c9a9d0", "#2b3a55", "#b7d3a8", "#e7a1a8", "#7a5a3a", "#9aa5ad", "#5d5aa8", "#c8b23c",
+];
+const ENTITIES = { "&": "&amp;", "<": "&lt;", ">": "&gt;", '"': "&quot;" };
 const inFew = (value) => String(Math.round(value * 1e4) / 1e4 + 0);
-const escaped = (text) => String(text).replace(/[&<>"]/g, (letter) => ({ "&": "&amp;", "<": "&lt;", ">": "&gt;", '"': "&quot;" })[letter]);
+const escaped = (text) => String(text).replace(/[&<>"]/g, (letter) => ENTITIES[letter]);
 
 function svgOf(patch, { width = 800, colours = COLOURS, ids = false } = {}) {
-  const xy = patch.xy(), { most, counts } = patch;
-  let [left, right, low, high] = patch.length ? [Infinity, -Infinity, Infinity, -Infinity] : [0, 1, 0, 1];
-  for (let i = 0; i < xy.length; i += 2) {
-    if (!(xy[i] === xy[i])) continue; // (NaN)
-    left = Math.min(left, xy[i] - 0.1);
-    right = Math.max(right, xy[i] + 0.1);
-    low = Math.min(low, -xy[i + 1] - 0.1);
-    high = Math.max(high, -xy[i + 1] + 0.1);
-  }
-  const kinds = [...new Set(patch.kinds)].sort((a, b) => a - b), near = ids && patch.neighbours();
-  const colourOf = typeof colours === "function" ? colours : (i) => colours[kinds.indexOf(patch.kinds[i]) % colours.length];
-  const tiles = Array.from({ length: patch.length }, (_, i) => {
-    const points = Array.from({ length: counts[i] }, (_, c) => `${inFew(xy[2 * (i * most + c)])},${inFew(-xy[2 * (i * most + c) + 1])}`);
-    const look = `fill="${escaped(colourOf(i, patch))}" points="${points.join(" ")}"`;
-    if (!ids) return `<polygon ${look}/>`;
-    const others = Array.from(near.subarray(i * most, i * most + counts[i]), (other) => (other < 0 ? "-" : other)).join(" ");
-    const title = patch.hasAddresses ? `<title>${patch.address(i)}</title>` : "";
-    return `<polygon id="tile${i}" data-near="${others}" ${look}>${title}</polygon>`;
-  });
-  const box = [left, low, right - left, high - low].map(inFew).join(" "), tall = Math.round((width * (high - low)) / (right - left));
+  const box = boxOf(patch.xy()), tall = Math.round((width * box[3]) / box[2]);
+  const kinds = [...new Set(patch.kinds)].sort((a, b) => a - b);
+  const byKind = (tile) => colours[kinds.indexOf(patch.kinds[tile]) % colours.length];
+  const colourOf = typeof colours === "function" ? colours : byKind;
   return [
-    `<svg xmlns="http://www.w3.org/2000/svg" viewBox="${box}" width="${width}" height="${tall}">`,
+    `<svg xmlns="http://www.w3.org/2000/svg" viewBox="${box.map(inFew).join(" ")}" width="${width}" height="${tall}">`,
     '<g stroke="#222" stroke-width=".04" stroke-linejoin="round">',
-    ...tiles,
+    ...Array.from({ length: patch.length }, (_, tile) => polygonText(patch, tile, colourOf(tile, patch), ids)),
     "</g>",
     "</svg>",
     "",
   ].join("\n");
+}
+
+// Left, top, width and height of places, with y downwards and a margin.
+function boxOf(xy) {
+  let [left, right, top, bottom] = [Infinity, -Infinity, Infinity, -Infinity];
+  for (let i = 0; i < xy.length; i += 2) {
+    if (Number.isNaN(xy[i])) continue;
+    left = Math.min(left, xy[i]);
+    right = Math.max(right, xy[i]);
+    top = Math.min(top, -xy[i + 1]);
+    bottom = Math.max(bottom, -xy[i + 1]);
+  }
+  return left < right ? [left - 0.1, top - 0.1, right - left + 0.2, bottom - top + 0.2] : [0, 0, 1, 1];
+}
+
+function polygonText(patch, tile, colour, hasId) {
+  const points = patch.polygon(tile).map(([x, y]) => `${inFew(x)},${inFew(-y)}`);
+  const look = `fill="${escaped(colour)}" points="${points.join(" ")}"`;
+  if (!hasId) return `<polygon ${look}/>`;
+  const begin = tile * patch.most, near = patch.neighbours().subarray(begin, begin + patch.counts[tile]);
+  const others = Array.from(near, (other) => (other < 0 ? "-" : other)).join(" ");
+  const title = patch.hasAddresses ? `<title>${patch.address(tile)}</title>` : "";
+  return `<polygon id="tile${tile}" data-near="${others}" ${look}>${title}</polygon>`;
 }
