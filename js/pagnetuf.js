@@ -443,7 +443,12 @@ export class Engine {
     return memory.borrow([text.length, given.length, LONGEST], (wordsAt, inputAt, note) => {
       memory.bytes.set(text, wordsAt);
       memory.bytes.set(given, inputAt);
-      return this.#answer([wordsAt, text.length, inputAt, given.length], note);
+      try {
+        return this.#answer([wordsAt, text.length, inputAt, given.length], note);
+      } catch (refusal) {
+        if (refusal.name === "BadWords" && list[refusal.fields[0]]) refusal.message += `: ${list[refusal.fields[0]]}`;
+        throw refusal;
+      }
     });
   }
 

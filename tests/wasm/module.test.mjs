@@ -4,6 +4,7 @@ import assert from "node:assert/strict";
 import { readFileSync, readdirSync } from "node:fs";
 import { test } from "node:test";
 import { Worker } from "node:worker_threads";
+import { gzipSync } from "node:zlib";
 import { Engine, Patch, Refusal, Window, ruleFile } from "../../js/pagnetuf.js";
 
 const top = new URL("../../", import.meta.url);
@@ -30,6 +31,12 @@ const area = (polygon) =>
     return sum + (x * v - u * y) / 2;
   }, 0);
 const areas = (patch) => Array.from({ length: patch.length }, (_, i) => area(patch.polygon(i)));
+
+test("the module has no imports, at most 540 KB, and at most 200 KB gzipped", () => {
+  const bytes = readFileSync(wasm);
+  assert.deepEqual(WebAssembly.Module.imports(new WebAssembly.Module(bytes)), []);
+  assert.ok(bytes.length <= 540000 && gzipSync(bytes, { level: 9 }).length <= 200000);
+});
 
 test("places", () => {
   assert.deepEqual(chair.place("0:"), { kind: 0, turn: 0, shift: [0, 0, 0, 0] });
@@ -90,6 +97,7 @@ test("refusals have the name, the number and the fields of the command", () => {
   assert.equal(refusalOf(() => engine.call(["nonsense"])), "2 BadWords 0");
   assert.equal(refusalOf(() => engine.call("calc rule=chair", "show a\n")), "13 BadScript UnknownName 1");
   assert.match(new Refusal("8 Outside 4 0").message, /^8 Outside 4 0: the edge/);
+  assert.throws(() => chair.window({ half: [0, 1] }), { message: /: half=0,1$/ });
 });
 
 test("a value of a wrong type is a TypeError", () => {

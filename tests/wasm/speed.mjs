@@ -7,16 +7,16 @@ export async function measured(bytes, rounds) {
   const compiled = performance.now() - begin;
   const { exports } = await WebAssembly.instantiate(module, {}), most = 200000;
   const [slot, text, frame, window, tiles, addrs, tile] = [16, 16, 144, 40, 40 * most, 130 * most, 40].map((size) => exports.take(size) >>> 0);
-  const u8 = new Uint8Array(exports.memory.buffer), u32 = new Uint32Array(exports.memory.buffer);
+  const u8 = new Uint8Array(exports.memory.buffer), read = (at) => new Uint32Array(exports.memory.buffer)[at >> 2];
   u8.set([112, 51], text);
   exports.tiling_open(text, 2, slot);
-  const machine = u32[slot >> 2];
+  const machine = read(slot);
   u8.fill(0, frame, frame + 144);
   u8.fill(0, window, window + 40);
   u8.set([5, 1, 5, 1], window + 32); // 261, 261
   const named = () => exports.tiling_cover(machine, frame, window, tiles, most, addrs, most, slot);
   named();
-  const count = u32[slot >> 2];
+  const count = read(slot);
   const calls = {
     cover: () => exports.tiling_cover(machine, frame, window, tiles, most, addrs, 0, slot),
     named,
