@@ -51,7 +51,7 @@ def words(top: str, kit: str):
     crates = dependencies(top)
     built = {name: os.path.join(top, "crates", name, "out", "rlib") for name in below(crates, LIBRARY)}
     found = ["--crate-name", LIBRARY, "src/lib.rt", "--crate-type", "staticlib"]
-    for name in crates[LIBRARY]:
+    for name in ["std", *crates[LIBRARY]]:
         folder = built.get(name, os.path.join(kit, "rlibs"))
         found += ["--extern", f"{name}={os.path.join(folder, name)}.rlib"]
     for folder in [os.path.join(kit, "rlibs"), *(built[name] for name in built if name != LIBRARY)]:
