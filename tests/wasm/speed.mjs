@@ -12,6 +12,7 @@ export async function measured(bytes, rounds) {
   exports.tiling_open(text, 2, slot);
   const machine = read(slot);
   u8.fill(0, frame, frame + 144);
+  u8[frame] = 42; // (the seed)
   u8.fill(0, window, window + 40);
   u8.set([5, 1, 5, 1], window + 32); // 261, 261
   const named = () => exports.tiling_cover(machine, frame, window, tiles, most, addrs, most, slot);
@@ -19,7 +20,7 @@ export async function measured(bytes, rounds) {
   const count = read(slot);
   const calls = {
     cover: () => exports.tiling_cover(machine, frame, window, tiles, most, addrs, 0, slot),
-    named,
+    "with addresses": named,
     neighbour: () => {
       for (let i = 0, at = addrs; i < count; i++, at += 130) exports.tiling_neighbour(machine, at, i & 3, slot, slot + 1);
     },
@@ -27,18 +28,17 @@ export async function measured(bytes, rounds) {
       for (let i = 0, at = addrs; i < count; i++, at += 130) exports.tiling_place(machine, at, tile);
     },
   };
-  const median = (call) => {
+  const told = Object.entries(calls).map(([name, call]) => {
     const times = Array.from({ length: rounds }, () => {
       named();
       const begun = performance.now();
       call();
       return performance.now() - begun;
-    });
-    return times.sort((a, b) => a - b)[rounds >> 1];
-  };
-  const [cover, withNames, across, placed] = Object.values(calls).map(median);
-  const each = (time) => ((time * 1e6) / count).toFixed(1);
-  return `${count} tiles; cover ${cover.toFixed(2)} ms, with addresses ${withNames.toFixed(2)} ms; neighbour ${each(across)} ns, place ${each(placed)} ns; compiled in ${compiled.toFixed(1)} ms`;
+    }).sort((a, b) => a - b);
+    const isEach = name === "neighbour" || name === "place", said = (time) => (isEach ? (time * 1e6) / count : time).toFixed(1);
+    return `${name} ${said(times[rounds >> 1])} ${isEach ? "ns" : "ms"} (${said(times[0])})`;
+  });
+  return `${count} tiles; ${told.join("; ")}; compiled in ${compiled.toFixed(1)} ms`;
 }
 
 const { readFileSync } = await import("node:fs");

@@ -1,6 +1,6 @@
 #!/bin/sh
 # Measures tiling.wasm beside the native library, in the same minute: a window of P3 of about 200,000 tiles, neighbours and
-# places; natively, in Node, Chromium and Firefox, and natively again. Medians of the wall time; it is no test.
+# places; natively, in Node, Chromium and Firefox, and natively again. Medians of the wall time, and the least; it is no test.
 #   tests/wasm/speed.sh [ROUNDS]     15 by default; TILING_WASM and TILING_ARCHIVE as for checks/wasm.sh
 case ${1:-} in -h | --help) sed -n '2,/^[^#]/s/^# \{0,1\}//p' "$0"; exit 0 ;; esac
 set -e
@@ -11,7 +11,7 @@ rounds=${1:-15}
 work=$(mktemp -d)
 trap 'rm -rf "$work"' EXIT
 
-gcc -std=c11 -Wall -Wextra -O2 -I "$top/include" -o "$work/speed" "$tests/speed.c" "${TILING_ARCHIVE:-$top/.tiling/libtiling.a}"
+gcc -std=gnu11 -Wall -Wextra -O2 -I "$top/include" -o "$work/speed" "$tests/speed.c" "${TILING_ARCHIVE:-$top/.tiling/libtiling.a}"
 {
     echo '<!doctype html><meta charset="utf-8"><pre></pre><script type="module">'
     sed -e 's/^export //' -e '/^const { readFileSync }/,$d' "$tests/speed.mjs"
