@@ -276,6 +276,9 @@ export declare class Patch {
   readonly counts: Uint8Array;
   /** 2 n: x and y of each tile's point 0. */
   positions(): Float64Array;
+  /** The shapes that occur, each x and y of its corners about the point 0; and n: the number of each tile's. For those
+   * who draw: tile i is the shape xy[numbers[i]], moved by its position. */
+  shapes(): { numbers: Int32Array; xy: Float64Array[] };
   /** 4 n M: the exact corners. A tile with fewer than M repeats its last. */
   outlines(): Int32Array;
   /** 2 n M: x and y of the corners, NaN after a tile's last. */

@@ -660,7 +660,7 @@ export class Tiling {
     const memory = this.#memory, text = memory.place("text"), sizes = memory.place("sizes");
     const status = memory.calls.tiling_write_address(at, text, LONGEST, sizes);
     if (status) this.#refuse(status);
-    return memory.text(text, memory.size(sizes));
+    return String.fromCharCode.apply(null, memory.bytes.subarray(text, text + memory.size(sizes)));
   }
 
   // The address in memory, in the form of the one that was given.
@@ -962,54 +962,65 @@ function quotient(tiling, a, b) {
 
 // ---- patches ----------------------------------------------------------------------------------------------------
 
-// Numbers for pairs or quadruples of whole numbers, by a table with open places.
-class Numbering {
-  #spots;
+// A table of numbers by keys, which are whole numbers below 2^53.
+class Table {
   #keys;
-  #width;
-  count = 0;
+  #numbers;
+  #shift = 28;
 
-  constructor(width, most) {
-    let size = 16;
-    while (size < 2 * most) size *= 2;
-    this.#spots = new Int32Array(size).fill(-1);
-    this.#keys = new Int32Array(width * most);
-    this.#width = width;
+  constructor(most) {
+    while (1 << (32 - this.#shift) < 2 * most) this.#shift--;
+    this.#keys = new Float64Array(1 << (32 - this.#shift));
+    this.#numbers = new Int32Array(this.#keys.length).fill(-1);
   }
 
-  #isAt(number, from, at) {
-    const start = number * this.#width;
-    for (let i = 0; i < this.#width; i++) if (this.#keys[start + i] !== from[at + i]) return false;
-    return true;
-  }
-
-  #spot(from, at) {
-    let hash = 0;
-    for (let i = 0; i < this.#width; i++) hash = Math.imul(hash ^ from[at + i], 0x9e3779b1) ^ (hash >>> 15);
-    const mask = this.#spots.length - 1;
-    let spot = (hash ^ (hash >>> 16)) & mask;
-    while (this.#spots[spot] >= 0 && !this.#isAt(this.#spots[spot], from, at)) spot = (spot + 1) & mask;
+  #spot(key) {
+    const keys = this.#keys, numbers = this.#numbers, mask = keys.length - 1;
+    let spot = Math.imul((key >>> 0) ^ Math.imul((key / 2 ** 32) | 0, 0x85ebca6b), 0x9e3779b1) >>> this.#shift;
+    while (numbers[spot] >= 0 && keys[spot] !== key) spot = (spot + 1) & mask;
     return spot;
   }
 
   // The number of a key, or -1.
-  find(from, at) {
-    return this.#spots[this.#spot(from, at)];
+  get(key) {
+    return this.#numbers[this.#spot(key)];
   }
 
-  // The number of a key, which is the next one if it is new.
-  add(from, at) {
-    const spot = this.#spot(from, at);
-    if (this.#spots[spot] < 0) {
-      this.#keys.set(from.subarray(at, at + this.#width), this.count * this.#width);
-      this.#spots[spot] = this.count++;
-    }
-    return this.#spots[spot];
+  set(key, number) {
+    const spot = this.#spot(key);
+    this.#keys[spot] = key;
+    this.#numbers[spot] = number;
   }
+}
 
-  keys() {
-    return this.#keys.subarray(0, this.count * this.#width);
+// Whole numbers below 2^53 that are equal and ordered as points are, by their coefficients.
+function keysOf(points) {
+  const least = [Infinity, Infinity, Infinity, Infinity], most = [-Infinity, -Infinity, -Infinity, -Infinity];
+  for (let i = 0; i < points.length; i++) {
+    if (points[i] < least[i & 3]) least[i & 3] = points[i];
+    if (points[i] > most[i & 3]) most[i & 3] = points[i];
   }
+  const spans = most.map((it, i) => it - least[i] + 1), keys = new Float64Array(points.length >> 2);
+  if (spans.reduce((a, b) => a * b, 1) > 2 ** 53) return ranksOf(points);
+  for (let i = 0; i < keys.length; i++) {
+    const [a, b, c, d] = [points[4 * i], points[4 * i + 1], points[4 * i + 2], points[4 * i + 3]];
+    keys[i] = (((a - least[0]) * spans[1] + b - least[1]) * spans[2] + c - least[2]) * spans[3] + d - least[3];
+  }
+  return keys;
+}
+
+// The same for points that are far apart.
+function ranksOf(points) {
+  const part = (spot, i) => points[4 * spot + i], ranks = new Float64Array(points.length >> 2);
+  const first = (a, b) => [0, 1, 2, 3].find((i) => part(a, i) !== part(b, i)) ?? 0;
+  const compare = (a, b) => part(a, first(a, b)) - part(b, first(a, b));
+  let rank = 0, last = 0;
+  for (const spot of Uint32Array.from(ranks.keys()).sort(compare)) {
+    if (compare(last, spot)) rank++;
+    ranks[spot] = rank;
+    last = spot;
+  }
+  return ranks;
 }
 
 export class Patch {
@@ -1069,32 +1080,46 @@ export class Patch {
 
   // ---- corners
 
-  // The exact corners of each kind in each turn, which tiles share.
-  #shapes() {
-    return this.once("shapes", () => new Map());
+  // What tiles share: the exact corners of each kind in each turn, with the last again up to the most, how many they
+  // are, and for each tile the number of its corners in this list.
+  #shaped() {
+    return this.once("shaped", () => {
+      const names = this.shapeNames(), numbers = new Int32Array(this.length), byName = [], corners = [];
+      for (let i = 0; i < numbers.length; i++) {
+        const number = (byName[names[i]] ??= corners.length);
+        if (number === corners.length) corners.push(this.makeShape(i));
+        numbers[i] = number;
+      }
+      const most = corners.reduce((a, b) => Math.max(a, b.length), 4), last = (it, k) => it[it.length - 4 + (k & 3)];
+      const padded = corners.map((it) => Int32Array.from({ length: most }, (_, k) => it[k] ?? last(it, k)));
+      return { numbers, corners, padded, most: most >> 2 };
+    });
   }
 
-  shapeOf(tile) {
-    const spot = this.shapeNumber(tile), shapes = this.#shapes();
-    let found = shapes.get(spot);
-    if (!found) shapes.set(spot, (found = this.makeShape(tile)));
-    return found;
-  }
-
-  shapeNumber(tile) {
-    return this.kinds[tile] * this.tiling.order + this.turns[tile];
+  // A number for each tile that tells its shape.
+  shapeNames() {
+    const { kinds, turns } = this, { order } = this.tiling;
+    return Int32Array.from(kinds, (kind, i) => kind * order + turns[i]);
   }
 
   makeShape(tile) {
     return this.#rows.shape(this.kinds[tile], this.turns[tile]);
   }
 
+  shapes() {
+    const { numbers, corners } = this.#shaped();
+    return { numbers, xy: corners.map((it) => this.tiling.xy(it)) };
+  }
+
   get counts() {
-    return this.once("counts", () => Uint8Array.from({ length: this.length }, (_, i) => this.shapeOf(i).length >> 2));
+    return this.once("counts", () => {
+      const { numbers, corners } = this.#shaped(), counts = corners.map((it) => it.length >> 2);
+      return Uint8Array.from(numbers, (number) => counts[number]);
+    });
   }
 
   get most() {
-    return this.once("most", () => this.counts.reduce((a, b) => Math.max(a, b), 1));
+    return this.#shaped().most;
   }
 
   positions() {
@@ -1103,12 +1128,16 @@ export class Patch {
 
   outlines() {
     return this.once("outlines", () => {
-      const { length, most, shifts } = this, out = new Int32Array(4 * length * most);
+      const { shifts, length } = this, { numbers, padded, most } = this.#shaped();
+      const out = new Int32Array(4 * length * most);
       for (let i = 0, at = 0; i < length; i++) {
-        const shape = this.shapeOf(i);
-        for (let corner = 0; corner < most; corner++) {
-          const from = Math.min(4 * corner, shape.length - 4);
-          for (let part = 0; part < 4; part++) out[at++] = shifts[4 * i + part] + shape[from + part];
+        const shape = padded[numbers[i]], from = 4 * i;
+        const a = shifts[from], b = shifts[from + 1], c = shifts[from + 2], d = shifts[from + 3];
+        for (let k = 0; k < 4 * most; k += 4, at += 4) {
+          out[at] = a + shape[k];
+          out[at + 1] = b + shape[k + 1];
+          out[at + 2] = c + shape[k + 2];
+          out[at + 3] = d + shape[k + 3];
         }
       }
       return out;
@@ -1144,18 +1173,26 @@ export class Patch {
 
   #woven() {
     return this.once("woven", () => {
-      const { length, most, counts } = this, outlines = this.outlines(), found = new Numbering(4, length * most);
-      const corners = new Int32Array(length * most).fill(-1);
+      const { length, most, counts } = this, outlines = this.outlines(), keys = keysOf(outlines), size = length * most;
+      const corners = new Int32Array(size).fill(-1), found = new Table(size), own = new Float64Array(size);
+      let count = 0;
       for (let i = 0; i < length; i++) {
-        for (let spot = i * most; spot < i * most + counts[i]; spot++) corners[spot] = found.add(outlines, 4 * spot);
+        for (let spot = i * most; spot < i * most + counts[i]; spot++) {
+          if (found.get(keys[spot]) >= 0) continue;
+          own[count++] = keys[spot];
+          found.set(keys[spot], spot);
+        }
       }
-      const points = found.keys(), order = sortedPoints(points), number = new Int32Array(order.length);
-      const vertices = new Int32Array(points.length);
-      order.forEach((from, to) => {
-        number[from] = to;
-        vertices.set(points.subarray(4 * from, 4 * from + 4), 4 * to);
+      const vertices = new Int32Array(4 * count);
+      own.subarray(0, count).sort().forEach((key, vertex) => {
+        const spot = found.get(key);
+        vertices.set(outlines.subarray(4 * spot, 4 * spot + 4), 4 * vertex);
+        found.set(key, vertex);
       });
-      return { vertices, corners: corners.map((vertex) => (vertex < 0 ? -1 : number[vertex])) };
+      for (let i = 0; i < length; i++) {
+        for (let spot = i * most; spot < i * most + counts[i]; spot++) corners[spot] = found.get(keys[spot]);
+      }
+      return { vertices, corners };
     });
   }
 
@@ -1167,27 +1204,26 @@ export class Patch {
     return this.#woven().corners;
   }
 
+  // The vertex at the end of each edge, or -1.
+  #ends() {
+    return this.once("ends", () => {
+      const { length, most, counts } = this, corners = this.corners(), ends = new Int32Array(length * most).fill(-1);
+      for (let i = 0; i < length; i++) {
+        const begin = i * most, last = begin + counts[i] - 1;
+        for (let spot = begin; spot < last; spot++) ends[spot] = corners[spot + 1];
+        ends[last] = corners[begin];
+      }
+      return ends;
+    });
+  }
+
   // For each edge the number of that across, tile times M plus edge, or -1.
   #across() {
     return this.once("across", () => {
-      const { length, most, counts } = this, corners = this.corners(), size = length * most;
-      const edges = new Int32Array(2 * size), back = new Int32Array(2), found = new Numbering(2, size);
-      const spotOf = new Int32Array(size), across = new Int32Array(size).fill(-1);
-      for (let spot = 0; spot < size; spot++) {
-        const tile = (spot / most) | 0, edge = spot - tile * most;
-        if (edge >= counts[tile]) continue;
-        edges[2 * spot] = corners[spot];
-        edges[2 * spot + 1] = corners[edge + 1 < counts[tile] ? spot + 1 : tile * most];
-        spotOf[found.add(edges, 2 * spot)] = spot;
-      }
-      for (let spot = 0; spot < size; spot++) {
-        if (corners[spot] < 0) continue;
-        back[0] = edges[2 * spot + 1];
-        back[1] = edges[2 * spot];
-        const other = found.find(back, 0);
-        if (other >= 0) across[spot] = spotOf[other];
-      }
-      return across;
+      const corners = this.corners(), ends = this.#ends(), found = new Table(corners.length);
+      const count = this.vertices().length >> 2;
+      corners.forEach((begin, spot) => begin >= 0 && found.set(begin * count + ends[spot], spot));
+      return corners.map((begin, spot) => (begin < 0 ? -1 : found.get(ends[spot] * count + begin)));
     });
   }
 
@@ -1208,13 +1244,19 @@ export class Patch {
 
   edges() {
     return this.once("edges", () => {
-      const { most, counts } = this, corners = this.corners(), across = this.#across(), out = [];
-      across.forEach((other, spot) => {
-        if (corners[spot] < 0 || (other >= 0 && other < spot)) return;
-        const tile = (spot / most) | 0, end = corners[spot - tile * most + 1 < counts[tile] ? spot + 1 : tile * most];
-        out.push([Math.min(corners[spot], end), Math.max(corners[spot], end)]);
+      const corners = this.corners(), ends = this.#ends(), across = this.#across(), count = this.vertices().length >> 2;
+      const keys = new Float64Array(corners.length);
+      let found = 0;
+      for (let spot = 0; spot < corners.length; spot++) {
+        if (ends[spot] < 0 || (across[spot] >= 0 && across[spot] < spot)) continue;
+        keys[found++] = Math.min(corners[spot], ends[spot]) * count + Math.max(corners[spot], ends[spot]);
+      }
+      const out = new Int32Array(2 * found);
+      keys.subarray(0, found).sort().forEach((key, i) => {
+        out[2 * i] = key / count;
+        out[2 * i + 1] = key % count;
       });
-      return Int32Array.from(out.sort((a, b) => a[0] - b[0] || a[1] - b[1]).flat());
+      return out;
     });
   }
 
@@ -1283,16 +1325,6 @@ function chosenRows(patch, rows, list) {
     addresses: rows.addresses && (() => picked(patch.addresses, ADDRESS, list)),
     shape: rows.shape,
   };
-}
-
-// The numbers of points in the order of their coefficients.
-function sortedPoints(points) {
-  const order = Uint32Array.from({ length: points.length >> 2 }, (_, i) => i);
-  return order.sort((a, b) => {
-    let i = 0;
-    while (i < 3 && points[4 * a + i] === points[4 * b + i]) i++;
-    return points[4 * a + i] - points[4 * b + i];
-  });
 }
 
 // Whether a polygon of `count` corners, counterclockwise, has a point inside or on an edge.
@@ -1441,11 +1473,11 @@ export class WholePatch extends Patch {
     return this.halves(tile).map((half) => half.address).join(" + ");
   }
 
-  // (two halves of the same two kinds and turns make the same whole tile)
-  shapeNumber(tile) {
-    const mine = super.shapeNumber(tile);
-    if (this.parts[tile] === 1) return mine;
-    return mine + 256 * (1 + this.#rows.otherKinds()[tile] * this.tiling.order + this.#rows.otherTurns()[tile]);
+  // (two halves of the same kinds and turns make the same whole tile)
+  shapeNames() {
+    const { parts } = this, { order } = this.tiling, kinds = this.#rows.otherKinds(), turns = this.#rows.otherTurns();
+    const added = (i) => (parts[i] === 1 ? 0 : 256 * (1 + kinds[i] * order + turns[i]));
+    return super.shapeNames().map((name, i) => name + added(i));
   }
 
   // As `draw` has it: from the end of the first half's glue edge round it, and then round the second half.
@@ -1540,29 +1572,36 @@ class Heap {
 
 // The supertiles of a level that tiles belong to: their motions follow from where each tile lies in its supertile.
 function supertilesOf(patch, level) {
-  const { tiling, addresses } = patch, low = [], high = [], from = [];
-  for (let i = 0; i < patch.length; i++) {
-    const address = addresses.subarray(ADDRESS * i, ADDRESS * (i + 1));
-    if (address[1] < level) continue;
-    from.push(i);
-    low.push(digitsOf(address, 0, level));
-    high.push(digitsOf(address, level, address[1]));
-  }
-  const places = tiling.placeAll(joined(low)), seen = new Set();
+  const { tiling, addresses, turns, shifts } = patch, seen = new Set();
   const rows = { kinds: [], turns: [], shifts: [], addresses: [] };
-  from.forEach((tile, i) => {
+  const tiles = Int32Array.from(patch.kinds.keys()).filter((tile) => addresses[ADDRESS * tile + 1] >= level);
+  const above = cutAddresses(addresses, tiles, level), places = tiling.placeAll(cutAddresses(addresses, tiles, 0, level));
+  tiles.forEach((tile, i) => {
     if (places.statuses[i]) throw new Refusal(`${places.statuses[i]} ${NAMES[places.statuses[i]]}`);
-    const turn = (patch.turns[tile] - places.turns[i] + tiling.order) % tiling.order;
+    const turn = (turns[tile] - places.turns[i] + tiling.order) % tiling.order, kind = above[ADDRESS * i];
     const moved = tiling.turnedPoint(places.shifts.subarray(4 * i, 4 * i + 4), turn);
-    const shift = moved.map((part, k) => patch.shifts[4 * tile + k] - part), name = `${high[i][0]} ${turn} ${shift}`;
+    const shift = moved.map((part, k) => shifts[4 * tile + k] - part), name = `${kind} ${turn} ${shift}`;
     if (seen.has(name)) return;
     seen.add(name);
-    rows.kinds.push(high[i][0]);
+    rows.kinds.push(kind);
     rows.turns.push(turn);
     rows.shifts.push(...shift);
-    rows.addresses.push(high[i]);
+    rows.addresses.push(i);
   });
+  rows.addresses = picked(above, ADDRESS, Int32Array.from(rows.addresses));
   return new Patch(HIDDEN, tiling, rows.kinds.length, supertileRows(tiling, level, rows), patch.origin);
+}
+
+// The addresses of some tiles with digits from one level to another: of tiles in a supertile, or of supertiles.
+function cutAddresses(addresses, tiles, begin, end) {
+  const out = new Uint8Array(ADDRESS * tiles.length);
+  tiles.forEach((tile, i) => {
+    const from = ADDRESS * tile, to = ADDRESS * i, stop = end ?? addresses[from + 1];
+    out[to] = begin ? addresses[from + 2 * begin + 1] : addresses[from];
+    out[to + 1] = stop - begin;
+    out.set(addresses.subarray(from + 2 + 2 * begin, from + 2 + 2 * stop), to + 2);
+  });
+  return out;
 }
 
 function supertileRows(tiling, level, rows) {
@@ -1572,7 +1611,7 @@ function supertileRows(tiling, level, rows) {
     kinds: () => Uint8Array.from(rows.kinds),
     turns: () => Uint8Array.from(rows.turns),
     shifts: () => Int32Array.from(rows.shifts),
-    addresses: () => joined(rows.addresses),
+    addresses: () => rows.addresses,
     shape: (kind, turn) => {
       const corners = tiling.turned(kind, turn), out = [];
       for (let i = 0; i < corners.length; i += 4) out.push(...tiling.product(corners.subarray(i, i + 4), scale));
@@ -1580,21 +1619,6 @@ function supertileRows(tiling, level, rows) {
       return Int32Array.from(out);
     },
   };
-}
-
-// Some digits of an address: that of a tile in a supertile, or that of a supertile.
-function digitsOf(address, begin, end) {
-  const out = new Uint8Array(ADDRESS);
-  out[0] = begin ? address[2 * begin + 1] : address[0];
-  out[1] = end - begin;
-  out.set(address.subarray(2 + 2 * begin, 2 + 2 * end), 2);
-  return out;
-}
-
-function joined(pieces) {
-  const out = new Uint8Array(ADDRESS * pieces.length);
-  pieces.forEach((piece, i) => out.set(piece, ADDRESS * i));
-  return out;
 }
 
 // ---- boards and pictures ----------------------------------------------------------------------------------------
