@@ -1575,7 +1575,8 @@ function supertilesOf(patch, level) {
   const { tiling, addresses, turns, shifts } = patch, seen = new Set();
   const rows = { kinds: [], turns: [], shifts: [], addresses: [] };
   const tiles = Int32Array.from(patch.kinds.keys()).filter((tile) => addresses[ADDRESS * tile + 1] >= level);
-  const above = cutAddresses(addresses, tiles, level), places = tiling.placeAll(cutAddresses(addresses, tiles, 0, level));
+  const places = tiling.placeAll(cutAddresses(addresses, tiles, 0, level));
+  const above = cutAddresses(addresses, tiles, level);
   tiles.forEach((tile, i) => {
     if (places.statuses[i]) throw new Refusal(`${places.statuses[i]} ${NAMES[places.statuses[i]]}`);
     const turn = (turns[tile] - places.turns[i] + tiling.order) % tiling.order, kind = above[ADDRESS * i];
