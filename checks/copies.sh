@@ -2,8 +2,7 @@
 # Compares the copies of rule files that the program trial_rule_files reads, in crates/trial_rule_files/data, with the files of
 # rules/ and docs/refused/. Each has its copy, and each copy its file. (Those named `_round_a_vertex` are made by
 # tools/fan_rule.py, and checks/stars.sh compares them.) Ends with 1 if one differs or is missing.
-case ${1:-} in -h | --help) sed -n '2,/^[^#]/s/^# \{0,1\}//p' "$0"; exit 0 ;; esac
-top=$(cd "$(dirname "$0")/.." && pwd) || exit 1
+. "$(dirname "$0")/needs"
 data="$top/crates/trial_rule_files/data"
 fault=0
 same() {

@@ -2,9 +2,8 @@
 # Makes crates/README.md from crates.txt and the first sentence of each crate's root file, and compares it with the file.
 # Ends with 1 if it differs.
 #   checks/crates.sh --write      writes the file
-case ${1:-} in -h | --help) sed -n '2,/^[^#]/s/^# \{0,1\}//p' "$0"; exit 0 ;; esac
-top=$(cd "$(dirname "$0")/.." && pwd) || exit 1
-command -v python3 > /dev/null || { echo "crates: skipped, since there is no python3"; exit 0; }
+. "$(dirname "$0")/needs"
+need python3
 exec python3 - "$top" "$@" << 'END'
 import os, re, sys, textwrap
 

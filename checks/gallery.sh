@@ -3,16 +3,8 @@
 # docs/gallery/drawn, and the page docs/gallery/tilings.html. Each file of rules/ has its picture, each is XML, and the
 # command of README.md draws the picture above it. Ends with 1 if one differs, is missing, or is drawn by nothing. The
 # program is the one that TILING names, or crates/tiling/out/tiling.
-case ${1:-} in -h | --help) sed -n '2,/^[^#]/s/^# \{0,1\}//p' "$0"; exit 0 ;; esac
-top=$(cd "$(dirname "$0")/.." && pwd) || exit 1
-program=${TILING:-$top/crates/tiling/out/tiling}
-python=${PYTHON:-python3}
-case $program in /*) ;; *) program=$PWD/$program ;; esac
-[ -x "$program" ] || { echo "gallery: skipped, since there is no program $program"; exit 0; }
-if ! "$python" -c 'import tomllib' 2> /dev/null; then
-    echo "gallery: skipped, since there is no Python 3.11 or later"
-    exit 0
-fi
+. "$(dirname "$0")/needs"
+need program python:tomllib
 work=$(mktemp -d) || exit 1
 trap 'rm -rf "$work"' EXIT
 TILING=$program PYTHON=$python "$top/tools/draw_gallery.sh" "$work" || { echo "gallery: tools/draw_gallery.sh failed" >&2; exit 1; }

@@ -6,8 +6,7 @@
 # tools are missing.
 # The program is the one that TILING names, with the C library beside it, or .tiling/program, or
 # crates/tiling/out/tiling.
-case ${1:-} in -h | --help) sed -n '2,/^[^#]/s/^# \{0,1\}//p' "$0"; exit 0 ;; esac
-top=$(cd "$(dirname "$0")/.." && pwd) || exit 1
+. "$(dirname "$0")/needs"
 fault=0
 say() { echo "install: $*" >&2; }
 failed() { say "$*"; fault=1; }
@@ -17,12 +16,9 @@ program=
 for program in "${TILING:-}" "$top/.tiling/program" "$top/crates/tiling/out/tiling" ''; do
     [ ! -x "$program" ] || break
 done
-[ -n "$program" ] || { echo 'install: skipped, since there is no program: ./tiling --build makes it'; exit 0; }
+[ -n "$program" ] || skip program
 program=$(cd "$(dirname "$program")" && pwd)/${program##*/}
-python=
-for python in "${PYTHON:-python3}" /usr/bin/python3 ''; do
-    [ -z "$python" ] || ! "$python" -c 'import numpy' 2> /dev/null || break
-done
+has_modules numpy || python=
 work=$(mktemp -d) || exit 1
 trap 'rm -rf "$work"' EXIT
 prefix="$work/a prefix"
@@ -79,7 +75,7 @@ try_program() {
 }
 
 try_python() {
-    [ -n "$python" ] || { say 'skipped the Python package: there is no numpy'; return; }
+    [ -n "$python" ] || { say 'skipped in part: no python:numpy'; return; }
     cd "$work" || return
     "$tiling" board p3 --tiles 60 > board.json && "$python" -c '
 import json, sys
@@ -110,8 +106,8 @@ assert pagnetuf.Tiling("p3").neighbour("2:1/0,0/0", 2) == ("3:1/2,1/0", 0)' "$pr
 }
 
 try_library() {
-    [ -f "$prefix/lib/libtiling.so.0" ] || { say 'skipped the C library: it is not built'; return; }
-    has pkg-config && has gcc || { say 'skipped the C library: there is no pkg-config, or no gcc'; return; }
+    [ -f "$prefix/lib/libtiling.so.0" ] || { say 'skipped in part: no library'; return; }
+    for tool in pkg-config gcc; do has $tool || { say "skipped in part: no $tool"; return; }; done
     printf '%s\n' '#include <tiling.h>' '#include <stdio.h>' 'int main(void) {' \
         'tiling_machine t; tiling_address a; tiling_tile p;' \
         'if (tiling_abi() != TILING_ABI || tiling_open("chair", 5, &t)) return 1;' \
@@ -140,14 +136,14 @@ try_shells() {
             cmp -s "$work/real" "$work/offered" || failed "bash completes other options of $command"
         done
     else
-        say 'skipped the completion of bash: there is none'
+        say 'skipped in part: no bash'
     fi
     if has zsh; then
         zsh -n "$prefix/share/zsh/site-functions/_tiling" || failed 'the completion of zsh'
         zsh -f "$top/checks/install_zsh.zsh" "$prefix/share/zsh/site-functions" > "$work/zsh" 2>&1 \
             || { failed 'zsh does not complete as it should'; cat "$work/zsh" >&2; }
     else
-        say 'skipped the completion of zsh: there is none'
+        say 'skipped in part: no zsh'
     fi
 }
 
@@ -171,7 +167,7 @@ try_staged() {
 }
 
 try_deb() {
-    has dpkg-deb || { say 'skipped the package: there is no dpkg-deb'; return; }
+    has dpkg-deb || { say 'skipped in part: no dpkg-deb'; return; }
     mkdir "$work/deb"
     file=$("$top/tools/make_deb.sh" "$work/deb" 2> /dev/null) && [ -f "$file" ] || { failed 'no package'; return; }
     dpkg-deb --fsys-tarfile "$file" | tar -t > "$work/inside"

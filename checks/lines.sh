@@ -4,7 +4,6 @@
 # Names the worst, and ends with 1 if there are more than the numbers in lines.py, which are those of today: write the
 # smaller number there if one falls.
 #   checks/lines.sh CRATE..     lists all of them in these crates
-case ${1:-} in -h | --help) sed -n '2,/^[^#]/s/^# \{0,1\}//p' "$0"; exit 0 ;; esac
-top=$(cd "$(dirname "$0")/.." && pwd) || exit 1
-command -v python3 > /dev/null || { echo "lines: skipped, since there is no python3"; exit 0; }
+. "$(dirname "$0")/needs"
+need python3
 exec python3 "$top/checks/lines.py" "$top" "$@"

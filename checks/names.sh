@@ -4,9 +4,8 @@
 # words. Ends with 1 if a word is missing.
 #   checks/names.sh --write     drops what is no longer so, and adds rows for missing words, with the comments of their
 #                               definitions for their meanings
-case ${1:-} in -h | --help) sed -n '2,/^[^#]/s/^# \{0,1\}//p' "$0"; exit 0 ;; esac
-top=$(cd "$(dirname "$0")/.." && pwd) || exit 1
-command -v python3 > /dev/null || { echo "names: skipped, since there is no python3"; exit 0; }
+. "$(dirname "$0")/needs"
+need python3
 exec python3 - "$top" "$@" << 'END'
 import glob, re, sys
 

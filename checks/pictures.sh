@@ -2,13 +2,8 @@
 # Draws every picture that scripts make from rule files again, and compares each with the file in the repository: the
 # same text, and numbers that differ by no more than rounding. Ends with 1 if one differs, is missing, or is drawn by
 # nothing. gallery.sh does the same for the pictures that the program draws.
-case ${1:-} in -h | --help) sed -n '2,/^[^#]/s/^# \{0,1\}//p' "$0"; exit 0 ;; esac
-top=$(cd "$(dirname "$0")/.." && pwd) || exit 1
-python=${PYTHON:-python3}
-if ! "$python" -c 'import tomllib' 2> /dev/null; then
-    echo "pictures: skipped, since there is no Python 3.11 or later"
-    exit 0
-fi
+. "$(dirname "$0")/needs"
+need python:tomllib
 drawn=$(mktemp -d) || exit 1
 trap 'rm -rf "$drawn"' EXIT
 PYTHON=$python "$top/tools/draw_all.sh" "$drawn" || { echo "pictures: tools/draw_all.sh failed" >&2; exit 1; }

@@ -2,9 +2,8 @@
 # Reads the rows of docs/PROMISES.md that have a clause: each promise has at most 40 words, and each name in the column
 # of clauses is a clause, a call, a type or a definition of crates/*/src or crates/*/specs. A name in parentheses after
 # a call, and not after "by", is a clause of this call. Ends with 1 if one is not.
-case ${1:-} in -h | --help) sed -n '2,/^[^#]/s/^# \{0,1\}//p' "$0"; exit 0 ;; esac
-top=$(cd "$(dirname "$0")/.." && pwd) || exit 1
-command -v python3 > /dev/null || { echo "promises: skipped, since there is no python3"; exit 0; }
+. "$(dirname "$0")/needs"
+need python3
 exec python3 - "$top" << 'END'
 import glob, re, sys
 

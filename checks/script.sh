@@ -3,11 +3,8 @@
 # time: its answers before and after the program is built, on which stream, and with which status. Ends with 1 if one is
 # wrong. What the script says of wrong arguments is compared with the program, if there is one. The program is the one
 # that TILING names, or crates/tiling/out/tiling.
-case ${1:-} in -h | --help) sed -n '2,/^[^#]/s/^# \{0,1\}//p' "$0"; exit 0 ;; esac
-top=$(cd "$(dirname "$0")/.." && pwd) || exit 1
-for need in flock sha256sum awk nproc; do
-    command -v $need > /dev/null || { echo "script: skipped, since there is no $need"; exit 0; }
-done
+. "$(dirname "$0")/needs"
+need flock sha256sum awk nproc
 home=$PWD
 work=$(mktemp -d) || exit 1
 trap 'rm -rf "$work"' EXIT
@@ -15,8 +12,8 @@ here=$work/repository
 mkdir -p "$here/docs" "$here/crates/low/src" "$here/crates/low/specs" "$here/crates/low/proofs" "$here/crates/tiling/src"
 mkdir -p "$work/bin" "$work/without"
 mkdir "$here/tools"
-cp "$top/tiling" "$here/tiling" && cp "$top/docs/HELP.txt" "$here/docs/" && cp "$top/tools/words.awk" "$here/tools/" || exit 1
-echo 'tiling: low' > "$here/crates.txt"
+cp "$top/tiling" "$here/tiling" && cp "$top/docs/HELP.txt" "$here/docs/" && cp "$top/tools/words.awk" "$top/tools/follow_build.py" "$top/tools/command_line.py" "$here/tools/" || exit 1
+printf '%s\n' 'low:' 'tiling: low' > "$here/crates.txt"
 echo one > "$here/crates/low/src/lib.rt"
 echo two > "$here/crates/tiling/src/main.rt"
 echo proof > "$here/crates/low/proofs/Lib.antt"
@@ -32,21 +29,18 @@ calc | verify) exec cat ;;
 *) for word; do [ "$word" = rule=- ] && exec cat; done; echo '2 BadWords 0' >&2; exit 2 ;;
 esac
 END
-# The stand-in for `rt`: the file `fails` makes the proofs fail, `silent` leaves the unproved run without an
-# answer.
+# The stand-in for the compiler: the file `silent` makes it fail.
+cat > "$here/tools/compile_unproved.py" << END
+import os, shutil, sys
+if os.path.exists("$work/silent"):
+    sys.exit("error: it does not compile")
+shutil.copy("$work/program", sys.argv[2])
+os.chmod(sys.argv[2], 0o755)
+END
+# The stand-in for `rt`: the file `fails` makes the proofs fail.
 cat > "$work/bin/rt" << END
 #!/bin/sh
 case "\$1 \$2" in
-'try --')
-    shift 2
-    echo 'rt: a note'  >&2
-    [ ! -f "$work/silent" ] || { echo 'error: it does not compile' >&2; echo 'run=none proved=no' >&2; exit 2; }
-    sh "$work/program" "\$@"
-    status=\$?
-    echo "checked: ended status=\$status" >&2
-    echo "run=ended status=\$status runners=1 proved=no" >&2
-    exit \$status
-    ;;
 'all check')
     printf '== low\nfn low::a: proved\nlogic=proved functions=1 sum=0\n== tiling\n'
     [ ! -f "$work/fails" ] || { printf 'fn tiling::main: not proved\n== summary\n1 of 2 crates ok\n'; exit 1; }
@@ -116,16 +110,21 @@ yes '0 0 0,0,0,0 0:' | head -n 100000 > "$work/listing"
 run "$here/tiling" verify rule=chair addr=0: at=0,0,0,0 half=1,1 < "$work/listing"
 try 'unproved, with a listing of more than a mebibyte' 0 "$(cat "$work/listing")" "$one_line"
 run "$here/tiling" check rule=- <&-
-try 'unproved, with no standard input' 125 '' "$one_line${nl}tiling: *--build*"
+try 'unproved, with no standard input' 1 '' "$one_line${nl}cat*"
 touch "$work/silent"
 run "$here/tiling" place rule=chair addr=one
-try 'unproved, with no answer' 125 '' "$one_line${nl}*it does not compile*${nl}tiling: *--build*"
+try 'unproved, compiled already' 0 'answer one' "$one_line"
+run without "$here/tiling" place rule=chair addr=two
+try 'unproved, compiled already, without rt' 0 'answer two' "$one_line"
+rm "$here/.tiling/unproved"
+run "$here/tiling" place rule=chair addr=one
+try 'unproved, and does not compile' 125 '' "$one_line${nl}*it does not compile*${nl}tiling: *--build*"
 rm "$work/silent"
 run without "$here/tiling" place rule=chair addr=one
 try 'neither rt nor program' 125 '' "tiling: there is no 'rt'*"
 touch "$work/fails"
 run "$here/tiling" --build
-try 'a proof that fails' 125 '' "tiling: *proved low${nl}*not proved${nl}*tiling: not proved and built*"
+try 'a proof that fails' 125 '' "tiling: *proved low, 1 of 2*${nl}*not proved${nl}*tiling: not proved and built*"
 run "$here/tiling" place rule=chair addr=one
 try 'no program after it' 0 'answer one' "$one_line"
 rm "$work/fails"
@@ -134,7 +133,7 @@ run "$here/tiling" --build
 try 'a source that changes meanwhile' 125 '' '*a source changed*'
 rm "$work/edits"
 run "$work/link" --build
-try build 0 '' "tiling: proving*proved low${nl}*proved tiling${nl}tiling: proved and built"
+try build 0 '' "tiling: proving*proved low, 1 of 2*${nl}*proved tiling, 2 of 2${nl}tiling: proved and built"
 run "$here/tiling" --build
 try 'build again' 0 '' 'tiling: proved and built already'
 run "$here/tiling" place rule=chair addr=two
@@ -150,6 +149,13 @@ try 'from another folder' 0 'answer five' ''
 rm -rf "$here/crates/tiling/out"
 run "$here/tiling" place rule=chair addr=six
 try 'while crates/tiling/out is away' 0 'answer six' '' && is_quiet 'while crates/tiling/out is away'
+mkdir -p "$here/crates/tiling/out" && cp "$work/program" "$here/crates/tiling/out/tiling"
+rm -r "$here/.tiling" && run "$here/tiling" --keep 0
+run "$here/tiling" --version
+try 'a program of the gate, of other sources' 0 'not proved and built from these sources' ''
+run "$here/tiling" --keep "$("$here/tiling" --seal)"
+run "$here/tiling" --version
+case $(cat "$work/out") in *' by the gate with a kit'*) ;; *) echo 'script: a program of the gate' >&2; fault=1 ;; esac
 touch "$here/crates/low/src/lib.rt"
 run "$here/tiling" place rule=chair addr=seven
 try 'a source that was only touched' 0 'answer seven' '' && is_quiet 'a source that was only touched'
@@ -188,7 +194,6 @@ if command -v script > /dev/null && script -qec true /dev/null > /dev/null 2>&1;
 fi
 
 # The words that the program refuses, and no others, are refused where nothing is built, with the same line.
-program=${TILING:-$top/crates/tiling/out/tiling}
 case $program in /*) ;; *) program=$home/$program ;; esac
 cat > "$work/words.awk" << 'END'
 function one(text,    parts, n) { n = split(text, parts, " "); return parts[int(rand() * n) + 1] }

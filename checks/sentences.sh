@@ -6,7 +6,6 @@
 # greatest length, in words or lines. The numbers that are allowed are in sentences.py, and only ever fall; without a row
 # there, none is allowed.
 #   checks/sentences.sh [DOCUMENT|CRATE|FILE..]      lists all of them in these
-case ${1:-} in -h | --help) sed -n '2,/^[^#]/s/^# \{0,1\}//p' "$0"; exit 0 ;; esac
-top=$(cd "$(dirname "$0")/.." && pwd) || exit 1
-command -v python3 > /dev/null || { echo "sentences: skipped, since there is no python3"; exit 0; }
+. "$(dirname "$0")/needs"
+need python3
 exec python3 "$top/checks/sentences.py" "$top" "$@"

@@ -3,10 +3,9 @@
 # on standard error. A refusal has its exit code, its one line on standard error, and nothing on standard output. The
 # program is the one that is given, or that TILING names, or crates/tiling/out/tiling. The last line is 'N passed, M
 # failed'; ends with 1 if one failed.
-case ${1:-} in -h | --help) sed -n '2,/^[^#]/s/^# \{0,1\}//p' "$0"; exit 0 ;; esac
-top=$(cd "$(dirname "$0")/.." && pwd) || exit 1
-program=${1:-${TILING:-$top/crates/tiling/out/tiling}}
-[ -x "$program" ] || { echo "streams: skipped, since there is no program $program"; exit 0; }
+. "$(dirname "$0")/needs"
+program=${1:-$program}
+need program
 work=$(mktemp -d) || exit 1
 trap 'rm -rf "$work"' EXIT
 passed=0

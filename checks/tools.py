@@ -11,6 +11,7 @@ TOP, PROGRAM = os.path.abspath(sys.argv[1]), os.path.abspath(sys.argv[2])
 MODULES = {"command_line.py", "hostile_answers.py", "hostile_inputs.py", "older_toml.py", "rule_file.py", "toml_document.py"}
 # a call of each script that prints much or for long; those with PROGRAM are left out where there is none
 CALLS = {
+    "compile_unproved.py": None,
     "corners.py": "rules/chair.toml < LINES",
     "dearest.py": "PROGRAM",
     "draw_all.sh": None,
@@ -25,6 +26,7 @@ CALLS = {
     "draw_walk.py": "rules/chair.toml 0 3/0,1/0,0/0 6,6,0,7",
     "draw_window.py": "rules/penrose_p3.toml 0 2/3,1/1,0/1,2/2,0/2,0/2,1/3,1/1 2.2,1.6 9",
     "fan_rule.py": "64",
+    "follow_build.py": None,
     "hostile.py": "PROGRAM 20 1 1",
     "install.sh": None,
     "largest_rule.py": "0 1",
@@ -116,7 +118,8 @@ def checks(folder):
     """The scripts of checks/, and `check` itself, print what they do with --help."""
     for name in ["check", *sorted(f"checks/{it}" for it in os.listdir(os.path.join(folder, "checks")) if it.endswith(".sh"))]:
         with open(os.path.join(folder, name), encoding="utf-8") as file:
-            answers = "-h | --help)" in file.read()
+            text = file.read()
+            answers = "-h | --help)" in text or '. "$(dirname "$0")/needs"' in text
         ran = subprocess.run(["sh", name, "--help"], cwd=folder, stdin=subprocess.DEVNULL, capture_output=True) if answers else None
         count(f"{name} --help", ran and ran.returncode == 0 and ran.stdout and not ran.stderr, ran)
 

@@ -1,13 +1,8 @@
 #!/bin/sh
 # Makes docs/HELP.txt and docs/tiling.1 from the table docs/usage.toml, and compares them with the files. The commands and
 # keys of that table are those of tools/words.awk, and so are those of docs/FORMATS.md. Ends with 1 if one differs.
-case ${1:-} in -h | --help) sed -n '2,/^[^#]/s/^# \{0,1\}//p' "$0"; exit 0 ;; esac
-top=$(cd "$(dirname "$0")/.." && pwd) || exit 1
-python=${PYTHON:-python3}
-if ! "$python" -c 'import tomllib' 2> /dev/null; then
-    echo "usage: skipped, since there is no Python 3.11 or later"
-    exit 0
-fi
+. "$(dirname "$0")/needs"
+need python:tomllib
 fault=0
 for pair in help:HELP.txt man:tiling.1; do
     "$python" "$top/tools/make_usage.py" "${pair%%:*}" "$top/docs/usage.toml" | cmp -s - "$top/docs/${pair#*:}" && continue

@@ -3,14 +3,11 @@
 # docs/FORMATS.md make that put a style sheet after the first line, if there is a program. It needs xmllint and the
 # W3C's document types (in Debian libxml2-utils and w3c-sgml-lib), and is skipped without them. Ends with 1 if one is
 # not valid. The program is the one that TILING names, or crates/tiling/out/tiling.
-case ${1:-} in -h | --help) sed -n '2,/^[^#]/s/^# \{0,1\}//p' "$0"; exit 0 ;; esac
-top=$(cd "$(dirname "$0")/.." && pwd) || exit 1
-program=${TILING:-$top/crates/tiling/out/tiling}
-case $program in /*) ;; *) program=$PWD/$program ;; esac
-command -v xmllint > /dev/null || { echo "valid: skipped, since there is no xmllint"; exit 0; }
+. "$(dirname "$0")/needs"
+need xmllint
 type=
 for file in /usr/share/xml/w3c-sgml-lib/schema/dtd/REC-SVG11-*/svg11.dtd; do [ ! -f "$file" ] || type=$file; done
-[ -n "$type" ] || { echo "valid: skipped, since there is no svg11.dtd of w3c-sgml-lib"; exit 0; }
+[ -n "$type" ] || skip 'svg11.dtd of w3c-sgml-lib'
 work=$(mktemp -d) || exit 1
 trap 'rm -rf "$work"' EXIT
 if [ -x "$program" ]; then

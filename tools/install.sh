@@ -95,7 +95,7 @@ END
 
 make_version() {
     printf 'tiling %s\n' "$version"
-    [ ! -f "$built/stamp" ] || sed -n 2p "$built/stamp"
+    [ ! -f "$built/program.stamp" ] || sed -n 2p "$built/program.stamp"
     git -C "$top" log -1 --format='sources: commit %h of %as' 2> /dev/null || true
 }
 
