@@ -4,14 +4,13 @@
 # each function at least a tenth ends with OK. Then it runs the tests of js/pagnetuf.js, of the module's memory, and of the
 # package, compares its types by tsc, and runs the examples of docs/JAVASCRIPT.md. Before all that, and without a build,
 # the page docs/explore.html must have the checksum of the library's present sources.
-# Ends with 1 if one of these fails, and with 77 if the module can't be tried here; what is left out has a line. The last
-# line has the counts. The module is the one that TILING_WASM names, or .tiling/tiling.wasm; the library the one that
-# TILING_ARCHIVE names, or .tiling/libtiling.a. ROUNDS is how many random calls are made at least.
-case ${1:-} in -h | --help) sed -n '2,/^[^#]/s/^# \{0,1\}//p' "$0"; exit 0 ;; esac
-top=$(cd "$(dirname "$0")/.." && pwd) || exit 1
+# Ends with 1 if one of these fails. The last line has the counts. The module is the one that TILING_WASM names, or
+# .tiling/tiling.wasm; the library the one that TILING_ARCHIVE names, or .tiling/libtiling.a. ROUNDS is how many random
+# calls are made at least.
+. "$(dirname "$0")/needs"
 tests=$top/tests/wasm
 wasm=${TILING_WASM:-$top/.tiling/tiling.wasm}
-archive=${TILING_ARCHIVE:-$top/.tiling/libtiling.a}
+case $wasm in /*) ;; *) wasm=$PWD/$wasm ;; esac
 rounds=${ROUNDS:-1000000}
 page=$top/docs/explore.html
 fault=0
@@ -19,33 +18,26 @@ export PYTHONDONTWRITEBYTECODE=1
 
 say() { echo "wasm: $*" >&2; }
 failed() { say "$*"; fault=1; }
-has() { command -v "$1" > /dev/null; }
-# Ends with what was found so far, or else as skipped.
-skip() {
-    echo "skipped: $*"
-    [ $fault = 0 ] || exit 1
-    exit 77
-}
 
 # the page's checksum
-if [ -f "$page" ] && has python3; then
+if [ -f "$page" ]; then
+    need python3
     sources=$("$top/packaging/make_wasm.sh" --sources) || failed 'no checksum of the sources'
     grep -q "<meta name=\"\{0,1\}tiling-sources\"\{0,1\} content=\"\{0,1\}$sources\"\{0,1\}" "$page" \
         || failed 'docs/explore.html has the engine of other sources: make it again'
 fi
-for tool in node python3 gcc; do has $tool || skip "there is no $tool"; done
-[ -f "$wasm" ] && [ -f "$archive" ] || skip "./tiling --build makes $wasm and $archive"
-wasm=$(cd "$(dirname "$wasm")" && pwd)/${wasm##*/}
+[ $fault = 0 ] || exit 1
+need library "$wasm" node python3 gcc
 work=$(mktemp -d) || exit 1
 trap 'rm -rf "$work"' EXIT
 clang=
-has rt && clang=$(dirname "$(dirname "$(readlink -f "$(command -v rt)")")")/toolchain/bin/clang
+is_there rt && clang=$(dirname "$(dirname "$(readlink -f "$(command -v rt)")")")/toolchain/bin/clang
 
-native() { gcc -std=c11 -Wall -Wextra -Werror -O2 -I "$top/include" -o "$work/$1" "$tests/$1.c" "$archive"; }
+native() { gcc -std=c11 -Wall -Wextra -Werror -O2 -I "$top/include" -o "$work/$1" "$tests/$1.c" "$library"; }
 
 # Compiles the random calls for WebAssembly, to lie in the memory of the module.
 make_random() {
-    [ -x "$clang" ] || { say 'left out: random calls, since there is no clang of the kit'; return 1; }
+    [ -x "$clang" ] || { say 'skipped in part: no rt'; return 1; }
     ln -s "$clang" "$work/wasm-ld"
     "$clang" --target=wasm32-unknown-unknown --no-default-config -std=c11 -Wall -Wextra -Werror -O2 -ffreestanding \
         -mbulk-memory -nostdinc -isystem "$tests/headers" -I "$top/include" -c "$tests/random.c" -o "$work/random.o" \
@@ -80,7 +72,7 @@ compare_browser() {
     "$python" "$tests/browser.py" "$1" "$work/page.html" > "$work/$1.said" 2> "$work/$1.log"
     case $? in
     0) ;;
-    77) say "left out: there is no $1 that can be driven"; return 0 ;;
+    77) say "skipped in part: no $1"; return 0 ;;
     *) tail -n 5 "$work/$1.said" "$work/$1.log" >&2; return 1 ;;
     esac
     tried="$tried, $1"
@@ -98,8 +90,7 @@ if make_random; then
     random="$(sed -n 's/^machines .*, calls \([0-9]*\), OK \([0-9]*\), .*/\1 random calls, \2 of them OK/p' "$work/random.node")"
 fi
 tried=node
-python=python3
-"$python" -c 'import selenium' 2> /dev/null || python=/usr/bin/python3
+is_there python:selenium || python=python3
 if [ -f "$work/random.wasm" ]; then set -- "$work/random.wasm" $((rounds / 5)); else set -- "$wasm" 0; fi
 python3 "$tests/make_page.py" "$wasm" "$work/usual.calls" "$@" "$top"/rules/*.toml > "$work/page.html" || failed 'no page'
 for browser in chromium firefox; do compare_browser $browser || failed "$browser answers differently"; done
@@ -109,13 +100,13 @@ TILING_WASM=$wasm node --test "$tests" > "$work/tests" 2>&1 || { grep -A 30 '^no
 "$python" "$tests/example.py" "$top" "$wasm" 2> "$work/example.log"
 case $? in
 0) ;;
-77) say 'left out: the page of docs/JAVASCRIPT.md, since chromium cannot be driven' ;;
+77) say 'skipped in part: no chromium' ;;
 *) tail -n 3 "$work/example.log" >&2; failed 'the page of docs/JAVASCRIPT.md' ;;
 esac
-if has tsc; then
+if is_there tsc; then
     tsc --noEmit --strict --target es2021 --module es2020 --lib es2021,dom "$tests/use.ts" >&2 || failed 'the types differ'
 else
-    say 'left out: types, since there is no tsc'
+    say 'skipped in part: no tsc'
 fi
 echo "wasm: $(count_of usual) commands, $(count_of heavy) heavy ones, $random, in $tried;" \
     "$(sed -n 's/^# pass \([0-9]*\)$/\1/p' "$work/tests") tests; $([ $fault = 0 ] && echo 'no byte differs' || echo FAILED)"

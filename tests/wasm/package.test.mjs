@@ -2,7 +2,7 @@
 // docs/JAVASCRIPT.md, each beside what it prints. node --test tests/wasm/
 import assert from "node:assert/strict";
 import { execFileSync } from "node:child_process";
-import { mkdtempSync, readFileSync, readdirSync, rmSync, writeFileSync } from "node:fs";
+import { cpSync, mkdtempSync, readFileSync, readdirSync, rmSync, writeFileSync } from "node:fs";
 import { tmpdir } from "node:os";
 import { join } from "node:path";
 import { after, test } from "node:test";
@@ -11,13 +11,16 @@ const top = new URL("../../", import.meta.url), folder = mkdtempSync(join(tmpdir
 const wasm = process.env.TILING_WASM ?? new URL(".tiling/tiling.wasm", top).pathname;
 const run = (cwd, command, ...words) => execFileSync(command, words, { cwd, encoding: "utf8", env: { ...process.env, TILING_WASM: wasm }, stdio: ["ignore", "pipe", "pipe"] });
 after(() => rmSync(folder, { recursive: true, force: true }));
+// (packed in a copy, since npm pack puts files into js/ for as long as it runs)
+const copy = join(folder, "copy");
+for (const part of ["js", "packaging", "rules", "docs/JAVASCRIPT.md"]) cpSync(new URL(part, top), join(copy, part), { recursive: true });
 
 test("npm pack has the module, the types, the engine and the rule files, and takes its copies away", () => {
-  const [{ files, filename }] = JSON.parse(run(new URL("js/", top), "npm", "pack", "--json", "--pack-destination", folder));
+  const [{ files, filename }] = JSON.parse(run(join(copy, "js"), "npm", "pack", "--json", "--pack-destination", folder));
   const paths = files.map((it) => it.path);
   for (const path of ["pagnetuf.js", "pagnetuf.d.ts", "package.json", "README.md", "tiling.wasm", "rules/sphinx.toml"]) assert.ok(paths.includes(path), path);
   assert.equal(paths.filter((it) => it.startsWith("rules/")).length, readdirSync(new URL("rules/", top)).filter((it) => it.endsWith(".toml")).length);
-  assert.deepEqual(readdirSync(new URL("js/", top)).filter((it) => /wasm|rules|README/.test(it)), []);
+  assert.deepEqual(readdirSync(join(copy, "js")).filter((it) => /wasm|rules|README/.test(it)), []);
   run(folder, "npm", "init", "-y");
   run(folder, "npm", "install", "--offline", "--no-audit", "--no-fund", `./${filename}`);
   const installed = readFileSync(join(folder, "node_modules/pagnetuf/tiling.wasm"));
