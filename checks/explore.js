@@ -52,6 +52,18 @@ window.asked = {
     return found;
   },
 
+  /** How many pixels have no tile, at a scale at which tiles have no lines: those of the ground's colour. */
+  async gaps(scale) {
+    const { screen, state } = explorer;
+    await explorer.change({ lines: false, by: "kind", x: 0.1234, y: -0.77, scale });
+    while (!screen.isReady) await new Promise((next) => setTimeout(next, 5));
+    const { width, height } = screen.canvas, { data } = screen.pen.getImageData(0, 0, width, height);
+    const [ground] = new Uint32Array(Uint8ClampedArray.of(0x22, 0x30, 0x3a, 255).buffer);
+    const count = new Uint32Array(data.buffer).reduce((sum, pixel) => sum + (pixel === ground), 0);
+    await explorer.change({ lines: true, by: "", x: 0, y: 0, scale: 50 });
+    return [count, state.tiling];
+  },
+
   /** How far the page is wider and higher than the window. */
   sticksOut() {
     const { scrollWidth, scrollHeight } = document.documentElement;

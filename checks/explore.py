@@ -310,7 +310,12 @@ def try_stars(page):
 
 def try_supertiles(page):
     """The supertile of a tile has exactly the tiles whose addresses go on alike, by the program's list."""
-    for name, level, seed in (("penrose_p3", 3, 4), ("chair", 2, 0), ("sphinx", 2, 7), ("half_square_turned", 5, 1)):
+    for name, level, seed in (
+        ("penrose_p3", 3, 4),
+        ("chair", 2, 0),
+        ("sphinx", 2, 7),
+        ("half_square_turned", 5, 1),
+    ):
         page.open(tiling=name, tiles="halves", seed=seed, scale=50, level=level)
         deep = call(name, "walk", "addr=0:", f"seed={seed}", "grow=12").split()[-2]
         known = listing(name, seed, (0, 0, 0, 0), (16, 10), False, deep)
@@ -323,7 +328,9 @@ def try_supertiles(page):
         page.true("tiles of the supertile are known", digits[1:].count(digits[0]) > 2)
         for tile, theirs in zip(known, digits[1:]):
             middle = rule_file.centre(tile.polygons[0])
-            page.same(f"{tile.name} is in the supertile", inside_loosely(outline, middle), theirs == digits[0])
+            page.same(
+                f"{tile.name} is in the supertile", inside_loosely(outline, middle), theirs == digits[0]
+            )
 
 
 def try_hands(page):
@@ -485,7 +492,7 @@ def board(page):
 
 
 def try_rules(page):
-    """Each rule file of the menu is drawn, and its tile in the middle is one of the program's."""
+    """Each rule file of the menu is drawn without a gap, and its tile in the middle is one of the program's."""
     page.open()
     page.js("explorer.cards.show('tilings')")
     names = page.js("[...document.querySelectorAll('#tiling-list .choice')].map(it => it.dataset.name)")
@@ -507,6 +514,8 @@ def try_rules(page):
             and alike(right[0].name, tile[0])
             and [right[0].kind, right[0].turn, right[0].shift] == tile[1:],
         )
+        for scale in (9.71, 41):
+            page.same(f"pixels without a tile at {scale}", page.js(f"asked.gaps({scale})"), [0, name])
     page.true("no fault is shown", page.js("document.getElementById('fault').hidden"))
 
 

@@ -21,6 +21,7 @@ const MOST_FILE = 1 << 20, MOST_KEPT = 1 << 16; // bytes of a rule file, and of 
 const NEAR = 16; // pixels: so near to a corner a click means its star too
 const KEYS = { t: "tilings", l: "look", p: "places", s: "save", h: "help", "?": "help" };
 const FAULTS = {
+  BadWords: "This place is too far out: the coordinates of a point go up to 1,048,576.",
   BadAddress: "This address names no tile of this tiling.",
   CoordLimit: "The engine has no answer so far out with this seed. Try another seed.",
   DepthLimit: "The engine has no answer here with this seed. Try another seed.",

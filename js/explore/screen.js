@@ -218,10 +218,10 @@ export class Screen {
         [...top.blocks].filter(([name, bitmap]) => bitmap && !near.has(name)).map(([name]) => name));
   }
 
-  /** Whether all of the view is painted at its scale. */
+  /** Whether all of the view is painted at its scale, and shown. */
   get isReady() {
-    return Boolean(this.top) && this.top.scale === this.state.scale * this.ratio
-        && this.top.key === this.keyNow() && !this.missing().length;
+    const { top } = this, isNow = top?.scale === this.state.scale * this.ratio && top.key === this.keyNow();
+    return isNow && !this.wanted && !this.missing().length;
   }
 
   keyNow() {
