@@ -77,7 +77,7 @@ export const GROUPS = [
       { name: "rhomb_ten_four", title: "Rhombs of 72°", note: "four in one" },
       { name: "triangle_four", title: "Triangles, four in one", note: "equilateral" },
       { name: "triangle_nine", title: "Triangles, nine in one", note: "equilateral" },
-      { name: "half_triangle_three", title: "Half triangles", note: "angles 30°, 60° and 90°, three in one" },
+      { name: "half_triangle_three", title: "Half triangles", note: "angles 30°, 60°, 90°, three in one" },
       { name: "half_square_two", title: "Half squares, two in one", note: "turned by 135°" },
       { name: "half_square_turned", title: "Half squares, turning",
           note: "two in one, with a factor that turns" },

@@ -61,8 +61,9 @@ class Explorer {
     addEventListener("drop", (event) => this.dropped(event));
     new ResizeObserver(() => this.changed()).observe(byId("stage"));
     const { classList } = byId("invitation"), canvas = byId("tiling");
-    for (const name of ["pointerdown", "wheel", "keydown"]) canvas.addEventListener(
-        name, () => classList.add("gone"), { once: true });
+    for (const name of ["pointerdown", "wheel", "keydown"]) {
+      canvas.addEventListener(name, () => classList.add("gone"), { once: true });
+    }
     canvas.addEventListener("focus", () => this.cross(canvas.matches(":focus-visible")));
     canvas.addEventListener("blur", () => this.cross(false));
   }
@@ -146,8 +147,8 @@ class Explorer {
   /** Stars are counted once, when colours are by them. */
   async countStars() {
     const classes = this.told.classes[state.isWhole];
-    classes.star ||= await this.ask(
-        "starCount", { look: { tiling: state.tiling, isWhole: state.isWhole && this.told.hasHalves } });
+    const look = { tiling: state.tiling, isWhole: state.isWhole && this.told.hasHalves };
+    classes.star ||= await this.ask("starCount", { look });
   }
 
   /** The picture has to be drawn again. */
@@ -173,11 +174,13 @@ class Explorer {
   }
 
   async recall() {
-    if (!window.OffscreenCanvas) return this.cards.fault(
-        "This browser is too old", "The page needs one from 2023 or later.");
+    if (!window.OffscreenCanvas) {
+      this.cards.fault("This browser is too old", "The page needs one from 2023 or later.");
+      return;
+    }
     read(location.hash.slice(1));
-    if (state.file && !(await this.openBytes(state.tiling, unpacked(state.file)))) Object.assign(
-        state, { tiling: "penrose_p3", file: "" });
+    const isOpen = !state.file || (await this.openBytes(state.tiling, unpacked(state.file)));
+    if (!isOpen) Object.assign(state, { tiling: "penrose_p3", file: "" });
     await this.useTiling();
   }
 
@@ -357,10 +360,12 @@ class Explorer {
   async openFile(file) {
     if (!file) return;
     const name = fileName(file.name);
-    if (file.size > MOST_FILE) this.cards.fault(
-        "This rule file is refused", FAULTS.RuleTooLong, "3 RuleTooLong");
-    else if (await this.openBytes(name, new Uint8Array(await file.arrayBuffer()))) await this.chooseTiling(
-        name);
+    if (file.size > MOST_FILE) {
+      this.cards.fault("This rule file is refused", FAULTS.RuleTooLong, "3 RuleTooLong");
+      return;
+    }
+    const isOpen = await this.openBytes(name, new Uint8Array(await file.arrayBuffer()));
+    if (isOpen) await this.chooseTiling(name);
   }
 
   /** Opens a rule file, or shows its fault; the answer is whether it is open. */

@@ -29,8 +29,9 @@ export class Marks {
     pen.setTransform(ratio, 0, 0, ratio, 0, 0);
     pen.lineJoin = pen.lineCap = "round";
     if (this.supertile.length) this.dim(this.supertile);
-    if (this.kept?.star && this.kept.isNearCorner) this.kept.star.tiles.forEach(
-        ({ outline }) => this.outline(outline, 1.5, LIGHT, 4));
+    if (this.kept?.star && this.kept.isNearCorner) {
+      for (const { outline } of this.kept.star.tiles) this.outline(outline, 1.5, LIGHT, 4);
+    }
     if (this.pointed) this.outline(this.pointed.outline, 2, DARK, 5);
     if (this.kept) this.keptTile(this.kept);
     if (this.hasCross) this.cross();

@@ -15,8 +15,8 @@ export function element(tag, attributes = {}, ...inside) {
 
 /** A drawing of polygons in lengths, y up, in a box around a middle: [{ outline, colour }]. */
 export function drawing(polygons, [x, y], label) {
-  const far = Math.max(...polygons.flatMap(
-      ({ outline }) => outline.map(([a, b]) => Math.hypot(a - x, b - y)))) * 1.04;
+  const corners = polygons.flatMap(({ outline }) => outline);
+  const far = 1.04 * Math.max(...corners.map(([a, b]) => Math.hypot(a - x, b - y)));
   const space = "http://www.w3.org/2000/svg", svg = document.createElementNS(space, "svg");
   svg.setAttribute("viewBox", `${-far} ${-far} ${2 * far} ${2 * far}`);
   svg.setAttribute("role", "img");

@@ -48,25 +48,27 @@ export const chosenBy = (state, told) => state.by || told.classes[state.isWhole]
 
 /** The colour of each class of tiles, of the palette or the reader's own. */
 export function coloursOf(state, told) {
-  const by = chosenBy(state, told), classes = told.classes[state.isWhole],
-      palette = paletteNamed(state.palette);
-  const found = paletteColours(palette, by, classes);
-  for (const [key, colour] of state.own) if (key[0] === by[0] && found[key.slice(1)]) found[key.slice(1)] =
-      colour;
+  const by = chosenBy(state, told), found = paletteColours(paletteNamed(state.palette), by, state, told);
+  for (const [key, colour] of state.own) {
+    const number = Number(key.slice(1));
+    if (key[0] === by[0] && number < found.length) found[number] = colour;
+  }
   return found;
 }
 
-function paletteColours(palette, by, { kinds, ...counts }) {
-  if (by === "turn" || by === "child") return spread(palette.steps ?? stepsOf(palette.kinds), counts[by]);
-  if (by === "star") return Array.from(
-      { length: counts.star }, (_, i) => palette.kinds[i % palette.kinds.length]);
-  const order = [...kinds, ...[...Array(counts.kind).keys()].filter((kind) => !kinds.includes(kind))];
-  return Array.from({ length: counts.kind },
-      (_, kind) => palette.kinds[order.indexOf(kind) % palette.kinds.length]);
+/** Kinds of whole tiles have the first colours, whether tiles are whole or not. */
+function paletteColours({ kinds, steps }, by, { isWhole }, { firstKinds, classes }) {
+  const count = classes[isWhole][by];
+  if (by === "turn" || by === "child") return spread(steps ?? stepsOf(kinds), count);
+  const numbers = [...Array(count).keys()];
+  if (by === "star") return numbers.map((star) => kinds[star % kinds.length]);
+  const order = [...firstKinds, ...numbers.filter((kind) => !firstKinds.includes(kind))];
+  return numbers.map((kind) => kinds[order.indexOf(kind) % kinds.length]);
 }
 
-/** The classes whose colours can be chosen: of kinds those that tiles have. */
+/** The classes whose colours can be chosen. */
 export function classesOf(state, told) {
-  const by = chosenBy(state, told), classes = told.classes[state.isWhole];
-  return by === "kind" ? classes.kinds : [...Array(classes[by]).keys()];
+  const by = chosenBy(state, told);
+  if (by === "kind" && state.isWhole) return told.firstKinds;
+  return [...Array(told.classes[state.isWhole][by]).keys()];
 }

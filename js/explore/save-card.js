@@ -4,6 +4,7 @@ import { byId, copyText, saveFile, say } from "./page.js";
 import { written } from "./state.js";
 
 const MOST_PIXELS = 64e6; // of a PNG
+const MOST_TILES = 50000; // of a board
 
 export class SaveCard {
   constructor(app) {
@@ -11,8 +12,7 @@ export class SaveCard {
     byId("save-svg").addEventListener("click", () => this.svg());
     byId("save-png").addEventListener("click", () => this.png());
     byId("copy-command").addEventListener("click", () => this.copyCommand());
-    byId("copy-link").addEventListener(
-        "click", () => copyText(`${location.href.replace(/#.*$/, "")}#${written()}`, "Link"));
+    byId("copy-link").addEventListener("click", () => this.copyLink());
     byId("board-form").addEventListener("submit", (event) => {
       event.preventDefault();
       this.board();
@@ -44,11 +44,15 @@ export class SaveCard {
 
   async board() {
     const { app } = this, tiles = Number(byId("board-tiles").value);
-    if (!(Number.isInteger(tiles) && tiles >= 1 && tiles <= 50000)) return say(
-        "A board has 1 to 50,000 tiles.");
+    const isRight = Number.isInteger(tiles) && tiles >= 1 && tiles <= MOST_TILES;
+    if (!isRight) return say("A board has 1 to 50,000 tiles.");
     const { at, x, y } = app.state, where = { at, x, y, tiles };
     const made = await app.ask("board", { look: app.lookNow(), where });
     if (made) saveFile(`${this.name}-board.json`, made, "application/json");
+  }
+
+  copyLink() {
+    return copyText(`${location.href.replace(/#.*$/, "")}#${written()}`, "Link");
   }
 
   async copyCommand() {

@@ -33,11 +33,17 @@ class Layer {
         top: this.top - (j * high) / scale };
   }
 
-  forget(names) {
-    for (const name of names) {
-      this.blocks.get(name)?.close?.();
-      this.blocks.delete(name);
-    }
+  get hasBitmaps() {
+    return [...this.blocks.values()].some(Boolean);
+  }
+
+  forget(name) {
+    this.blocks.get(name)?.close();
+    this.blocks.delete(name);
+  }
+
+  forgetAll() {
+    for (const name of [...this.blocks.keys()]) this.forget(name);
   }
 }
 
@@ -95,10 +101,8 @@ export class Screen {
         place = `${look.tiling} ${look.seed} ${look.base} ${at}`;
     const key = JSON.stringify([look, at, ratio]), { top } = this, isSame = top?.key === key;
     if (isSame && (top.scale === scale * ratio || this.isPainting(top))) return;
-    const kept = top?.place === place
-        && [...top.blocks.values()].some(Boolean) ? top : this.under?.place === place ? this.under : null;
-    for (const layer of [top, this.under]) if (layer && layer !== kept) layer.forget(
-        [...layer.blocks.keys()]);
+    const kept = [top, this.under].find((layer) => layer?.place === place && layer.hasBitmaps) ?? null;
+    for (const layer of [top, this.under]) if (layer !== kept) layer?.forgetAll();
     this.under = kept;
     this.top = this.newLayer(look, key, place);
   }
@@ -135,7 +139,7 @@ export class Screen {
     if (under && !isWhole) this.showLayer(under);
     this.showLayer(top);
     if (under && isWhole) {
-      under.forget([...under.blocks.keys()]);
+      under.forgetAll();
       this.under = null;
     }
   }
@@ -186,8 +190,8 @@ export class Screen {
     try {
       const { bitmap, tiles, spent } = await this.workers.paint(layer.look, layer.partOf(name));
       this.report.blocks++;
-      if ((layer === this.top || layer === this.under) && layer.blocks.has(name)) this.keep(
-          layer, name, bitmap, tiles, spent);
+      const isWanted = (layer === this.top || layer === this.under) && layer.blocks.has(name);
+      if (isWanted) this.keep(layer, name, bitmap, tiles, spent);
       else bitmap.close();
     } catch (refusal) {
       if (layer === this.top && !layer.isRefused) this.refused(refusal);
@@ -214,8 +218,7 @@ export class Screen {
   /** Lets blocks go that are far from the view. */
   forgetFar() {
     const { top } = this, near = new Set(top.blocksIn(this.viewIn(top), 3));
-    if (top.blocks.size > near.size) top.forget(
-        [...top.blocks].filter(([name, bitmap]) => bitmap && !near.has(name)).map(([name]) => name));
+    for (const [name, bitmap] of top.blocks) if (bitmap && !near.has(name)) top.forget(name);
   }
 
   /** Whether all of the view is painted at its scale, and shown. */

@@ -81,8 +81,8 @@ export function read(text) {
   state.isWhole = word("tiles") !== "halves";
   state.by = ["kind", "turn", "child", "star"].includes(word("by")) ? word("by") : "";
   state.palette = paletteNamed(word("palette")).name;
-  state.own = new Map([...word("own").matchAll(/([ktcs]\d{1,3})-([0-9a-f]{6})/g)].map(
-      ([, key, colour]) => [key, `#${colour}`]));
+  const own = [...word("own").matchAll(/([ktcs]\d{1,3})-([0-9a-f]{6})/g)];
+  state.own = new Map(own.map(([, key, colour]) => [key, `#${colour}`]));
   state.lines = word("lines") !== "none";
   state.level = real("level", 0, 0, 8) | 0;
 }

@@ -47,9 +47,8 @@ function svgTile(patch, tile, number, x0, y0) {
 function svgSupertiles(drawable, look, { at, x, y, width, height }) {
   const frame = { ...look, at, base: drawable.deepBase(look) };
   const lines = supertileLines(drawable, look, drawable.window(frame, x, y, width, height), at);
-  return lines.map(
-      (line) =>
-      `<polyline class="supertile" points="${line.map(([a, b]) => `${short(a)},${short(-b)}`).join(" ")}"/>`);
+  const points = (line) => line.map(([a, b]) => `${short(a)},${short(-b)}`).join(" ");
+  return lines.map((line) => `<polyline class="supertile" points="${points(line)}"/>`);
 }
 
 /** The view as a PNG file. */

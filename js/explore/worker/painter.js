@@ -45,10 +45,12 @@ function paintSmall({ raster, pen }, look, { scale, ratio }, { shapes, places, c
   const strength = look.lines ? Math.min(1, Math.max(0, (scale / ratio - FINE / 2) / FINE)) : 0;
   const line = new Pen(width, pixelOf(look.line), 256 * strength), inks = look.colours.map(pixelOf);
   raster.clear(pixelOf(look.line));
-  for (let i = 0; i < shapes.length; i++) if (shapes[i]) raster.fill(
-      shapes[i], places[2 * i], places[2 * i + 1], inks[colours[i]]);
-  for (let i = 0; i < shapes.length; i++) if (shapes[i]) raster.draw(
-      shapes[i], places[2 * i], places[2 * i + 1], line);
+  for (let i = 0; i < shapes.length; i++) {
+    if (shapes[i]) raster.fill(shapes[i], places[2 * i], places[2 * i + 1], inks[colours[i]]);
+  }
+  for (let i = 0; i < shapes.length; i++) {
+    if (shapes[i]) raster.draw(shapes[i], places[2 * i], places[2 * i + 1], line);
+  }
   pen.putImageData(raster.image, 0, 0);
 }
 
@@ -62,14 +64,16 @@ function paintLarge(pen, look, { wide, high }, { shapes, places, colours }, widt
     pen.fillStyle = look.colours[colour];
     for (let first = 0; first < group.length; first += TOGETHER) {
       pen.beginPath();
-      for (const i of group.slice(first, first + TOGETHER)) trace(
-          pen, shapes[i].outline, places[2 * i], places[2 * i + 1]);
+      for (const i of group.slice(first, first + TOGETHER)) {
+        trace(pen, shapes[i].outline, places[2 * i], places[2 * i + 1]);
+      }
       pen.fill();
     }
   });
   pen.beginPath();
-  for (let i = 0; i < shapes.length; i++) if (shapes[i]) traceLines(
-      pen, shapes[i].lines, places[2 * i], places[2 * i + 1]);
+  for (let i = 0; i < shapes.length; i++) {
+    if (shapes[i]) traceLines(pen, shapes[i].lines, places[2 * i], places[2 * i + 1]);
+  }
   pen.lineWidth = width;
   pen.lineCap = "round";
   pen.strokeStyle = look.line;

@@ -28,8 +28,9 @@ export class Form {
     }
     for (const { corners, glued } of polygons) {
       const count = corners.length / 2;
-      for (let edge = 0; edge < count; edge++) if (edge !== glued) this.edges.push(
-          first + edge, first + ((edge + 1) % count));
+      for (let edge = 0; edge < count; edge++) {
+        if (edge !== glued) this.edges.push(first + edge, first + ((edge + 1) % count));
+      }
       first += count;
     }
   }
@@ -238,8 +239,9 @@ export class Raster {
       return;
     }
     pixels[spot] = mixed(pixels[spot], colour, ((cell + 1 - low) * strength) | 0);
-    for (cell++, spot += across; cell < last; cell++, spot += across) pixels[spot] =
-        mixed(pixels[spot], colour, strength);
+    for (cell++, spot += across; cell < last; cell++, spot += across) {
+      pixels[spot] = mixed(pixels[spot], colour, strength);
+    }
     pixels[spot] = mixed(pixels[spot], colour, ((high - last) * strength) | 0);
   }
 

@@ -139,12 +139,14 @@ const FAULTS = {
     const large = "it has to be above 1, and its 64th power above 2^24.";
     if (rule.format === 2) return `The length of the factor is ${long}: ${large}`;
     if (Math.abs(rule.factor[1]) < 1e-9) return `The factor is ${rule.factor[0].toFixed(3)}: ${large}`;
-    return `The factor turns by ${degrees}°, and its length is ${long}: in format 1 it has to be real, and above 1.`;
+    const real = "in format 1 it has to be real, and above 1.";
+    return `The factor turns by ${degrees}°, and its length is ${long}: ${real}`;
   },
   BadMate(rule, marks, [type]) {
     const mate = rule.mates[type];
     markType(rule, marks, type);
-    return `The mate of type ${type} is ${mate}, and the mate of type ${mate} is ${rule.mates[mate]}, not ${type}.`;
+    const back = rule.mates[mate];
+    return `The mate of type ${type} is ${mate}, and the mate of type ${mate} is ${back}, not ${type}.`;
   },
   GlueWrong(rule, marks, [type]) {
     const mate = rule.mates[type], count = (it) => rule.edgesOf(it).length;
@@ -177,7 +179,7 @@ const FAULTS = {
       const lost = kind.children.findIndex((child) => child.kind >= rule.kinds.length);
       if (words[0] === "child" && lost >= 0) {
         const of = kind.children[lost].kind, last = rule.kinds.length - 1;
-        return `Child ${lost} of kind ${parent} is of kind ${of}, and the last kind is ${last}. It isn't drawn.`;
+        return `Child ${lost} of kind ${parent} is of kind ${of}, the last kind is ${last}. It isn't drawn.`;
       }
     }
     return (

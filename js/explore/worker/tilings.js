@@ -77,9 +77,9 @@ export class Drawable {
 
   /** What the page has to know. */
   told() {
-    const { name, order, density } = this;
-    return { name, order, density, hasHalves: this.tiling.hasHalves, classes: this.classes,
-        isBuiltIn: this.tiling.name !== "-" };
+    const { name, order, density, classes } = this, { hasHalves } = this.tiling;
+    const firstKinds = this.kinds.filter((kind) => this.isFirst(kind));
+    return { name, order, density, hasHalves, firstKinds, classes };
   }
 
   patchOf(window, isWhole) {
