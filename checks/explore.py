@@ -1,10 +1,12 @@
 """What docs/explore.html shows and does in a browser, held against the program: see explore.sh. Called
 with the top and the program."""
 import cmath
+import glob
 import json
 import math
 import os
 import re
+import shutil
 import subprocess
 import sys
 import time
@@ -435,7 +437,9 @@ def try_saving(page):
         if page.browser.name == "Chromium":
             page.same("what is copied", page.js("navigator.clipboard.readText()"), page.text("command"))
         page.press("save-svg")
-        root = ElementTree.fromstring(page.saved(f"{name}.svg"))
+        picture = page.saved(f"{name}.svg")
+        page.same("what is wrong with the picture", invalid(picture.decode()), "")
+        root = ElementTree.fromstring(picture)
         box = [float(it) for it in root.get("viewBox").split()]
         drawn = [it for it in root.iter("{http://www.w3.org/2000/svg}polygon")]
         seen = {it[0].text for it in drawn if is_seen(it, box)}
@@ -454,6 +458,17 @@ def try_saving(page):
         page.js("[innerWidth, innerHeight]"),
     )
     board(page)
+
+
+def invalid(picture):
+    """Why a picture isn't SVG 1.1, or nothing; not judged without xmllint or the document type. Attributes
+    such as data-near are of SVG 2."""
+    types = glob.glob("/usr/share/xml/w3c-sgml-lib/schema/dtd/REC-SVG11-*/svg11.dtd")
+    if not types or not shutil.which("xmllint"):
+        return ""
+    words = ["xmllint", "--nonet", "--noout", "--dtdvalid", types[-1], "-"]
+    own = re.sub(r' data-near="[^"]*"', "", picture)
+    return subprocess.run(words, input=own, capture_output=True, text=True, check=False).stderr
 
 
 def is_seen(polygon, box):
@@ -492,7 +507,7 @@ def board(page):
 
 
 def try_rules(page):
-    """Each rule file of the menu is drawn without a gap, and its tile in the middle is one of the program's."""
+    """Each rule file of the menu is drawn without a gap, and its tile in the middle is the program's."""
     page.open()
     page.js("explorer.cards.show('tilings')")
     names = page.js("[...document.querySelectorAll('#tiling-list .choice')].map(it => it.dataset.name)")

@@ -32,7 +32,7 @@ function styleOf(look, classes, scale) {
   const line = look.lines ? `stroke:${look.line};stroke-width:${short(1.1 / scale)};stroke-linejoin:round`
       : "stroke:none";
   const supertile = `fill:none;stroke:#10181d;stroke-width:${short(3 / scale)};stroke-linejoin:round`;
-  return `<style>.tile{${line}}\n${fills.join("\n")}\n.supertile{${supertile}}</style>`;
+  return `<style type="text/css">.tile{${line}}\n${fills.join("\n")}\n.supertile{${supertile}}</style>`;
 }
 
 function svgTile(patch, tile, number, x0, y0) {
