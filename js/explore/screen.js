@@ -198,7 +198,14 @@ export class Screen {
       layer.isRefused = true;
     }
     this.underWay--;
-    this.refresh();
+    if (this.isNews(layer, name)) this.refresh();
+    else this.pump();
+  }
+
+  /** Whether a frame has to be drawn since a block is there: it is seen, and no older layer waits for the others. */
+  isNews(layer, name) {
+    if (layer !== this.top) return true;
+    return !(this.under && this.isPainting(layer)) && layer.blocksIn(this.viewIn(layer)).includes(name);
   }
 
   keep(layer, name, bitmap, tiles, spent) {
