@@ -529,9 +529,18 @@ def try_rules(page):
             and alike(right[0].name, tile[0])
             and [right[0].kind, right[0].turn, right[0].shift] == tile[1:],
         )
+        drawn = drawn_rule(os.path.join(TOP, "rules", name + ".toml"))
+        told = page.js(f"explorer.ask('rulePicture', {{name: '{name}'}})")
+        page.same("polygons and lines of the rule's picture", told.count("<path"), drawn.count("<path"))
         for scale in (9.71, 41):
             page.same(f"pixels without a tile at {scale}", page.js(f"asked.gaps({scale})"), [0, name])
     page.true("no fault is shown", page.js("document.getElementById('fault').hidden"))
+
+
+def drawn_rule(path):
+    """The picture of a rule file by tools/draw_rule.py."""
+    words = [sys.executable, os.path.join(TOP, "tools", "draw_rule.py"), path]
+    return subprocess.run(words, stdout=subprocess.PIPE, text=True, check=True).stdout
 
 
 def drop(page, text, name):
@@ -555,12 +564,7 @@ def try_files(page):
         page.same("the line", page.text("fault-line"), first_line(path).removeprefix("# Refused: "))
         page.wait("document.querySelector('#fault-picture img')?.naturalWidth > 100")
         source = page.js("decodeURIComponent(document.querySelector('#fault-picture img').src)")
-        drawn = subprocess.run(
-            [sys.executable, os.path.join(TOP, "tools", "draw_rule.py"), path],
-            stdout=subprocess.PIPE,
-            text=True,
-            check=True,
-        ).stdout
+        drawn = drawn_rule(path)
         page.same("red lines", *(picture.count('stroke="#d00000"') for picture in (source, drawn)))
     drop(page, "order = 5\n", "nothing.toml")
     page.wait("document.getElementById('fault-line').textContent.startsWith('3 RuleRefused Missing')")

@@ -1,5 +1,5 @@
 // Cards over the picture: one of them is open at a time, besides that of the tile.
-import { byId } from "./page.js";
+import { byId, picture } from "./page.js";
 
 const CARDS = ["tilings", "look", "places", "save", "help"];
 const openers = (name) => document.querySelectorAll(`[aria-controls="${name}"]`);
@@ -47,18 +47,13 @@ export class Cards {
   }
 
   /** Says a fault, with the engine's line and a picture if there are any. */
-  fault(title, words, line = "", picture = "") {
+  fault(title, words, line = "", svg = "") {
     byId("fault-title").textContent = title;
     byId("fault-words").textContent = words;
     byId("fault-line").textContent = line;
     byId("fault-line").hidden = !line;
-    byId("fault-picture").replaceChildren();
-    if (picture) {
-      const image = new Image();
-      image.alt = `The rule, with the fault in red. ${words}`;
-      image.src = `data:image/svg+xml,${encodeURIComponent(picture)}`;
-      byId("fault-picture").append(image);
-    }
+    const pictures = svg ? [picture(svg, `The rule, with the fault in red. ${words}`)] : [];
+    byId("fault-picture").replaceChildren(...pictures);
     byId("fault").hidden = false;
     byId("fault").querySelector(".close").focus();
   }

@@ -3,6 +3,7 @@
 import { Cards } from "./cards.js";
 import { tilingNamed } from "./catalogue.js";
 import { Gestures } from "./gestures.js";
+import { HelpCard } from "./help-card.js";
 import { LookCard } from "./look-card.js";
 import { Marks } from "./marks.js";
 import { byId, say } from "./page.js";
@@ -44,9 +45,11 @@ class Explorer {
     this.look = new LookCard(this);
     this.places = new PlacesCard(this);
     this.save = new SaveCard(this);
+    this.help = new HelpCard(this);
     this.menu = new TilingsCard(this, (name) => this.chooseTiling(name), (file) => this.openFile(file));
-    this.cards = new Cards((name) =>
-        ({ tilings: this.menu, look: this.look, places: this.places, save: this.save })[name]?.show());
+    const contents = { tilings: this.menu, look: this.look, places: this.places, save: this.save,
+        help: this.help };
+    this.cards = new Cards((name) => contents[name].show());
     this.gestures = new Gestures(byId("tiling"), this);
     this.listen();
   }

@@ -31,6 +31,14 @@ export function drawing(polygons, [x, y], label) {
   return svg;
 }
 
+/** An SVG text as an image. */
+export function picture(svg, words) {
+  const image = new Image();
+  image.alt = words;
+  image.src = `data:image/svg+xml,${encodeURIComponent(svg)}`;
+  return image;
+}
+
 let silence = 0;
 
 /** Says something for a moment. */

@@ -132,10 +132,12 @@ export class Screen {
 
   show() {
     const { pen, canvas, top, under } = this;
-    pen.fillStyle = top?.look.line ?? "#22303a";
-    pen.fillRect(0, 0, canvas.width, canvas.height);
+    const isWhole = top && this.missing().length === 0;
+    if (!isWhole) {
+      pen.fillStyle = top?.look.line ?? "#22303a";
+      pen.fillRect(0, 0, canvas.width, canvas.height);
+    }
     if (!top) return;
-    const isWhole = this.missing().length === 0;
     if (under && !isWhole) this.showLayer(under);
     this.showLayer(top);
     if (under && isWhole) {
@@ -202,7 +204,8 @@ export class Screen {
     else this.pump();
   }
 
-  /** Whether a frame has to be drawn since a block is there: it is seen, and no older layer waits for the others. */
+  /** Whether a frame has to be drawn since a block is there: it is seen, and no older layer waits for the
+   * others. */
   isNews(layer, name) {
     if (layer !== this.top) return true;
     return !(this.under && this.isPainting(layer)) && layer.blocksIn(this.viewIn(layer)).includes(name);

@@ -7,9 +7,9 @@ const text = (id) => byId(id).textContent;
 
 export function startWorkers() {
   const url = URL.createObjectURL(new Blob([text("worker-code")], { type: "text/javascript" }));
-  const rules = Object.entries(JSON.parse(text("rules")))
-      .map(([name, rule]) => [name, tilingNamed(name).rule ?? rule]);
+  const files = Object.entries(JSON.parse(text("rules")));
+  const rules = files.map(([name, file]) => ({ name, file, builtIn: tilingNamed(name).rule }));
   const engine = { text: text("tiling-wasm"), isPacked: byId("tiling-wasm").dataset.form === "gzip" };
   const count = (navigator.hardwareConcurrency ?? 2) > 2 ? 2 : 1;
-  return new Workers(url, count, { engine, rules: Object.fromEntries(rules) });
+  return new Workers(url, count, { engine, rules });
 }

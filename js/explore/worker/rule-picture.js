@@ -301,8 +301,8 @@ function unitOf(rule) {
   return Math.max(38, Math.min(90, Math.max(250 / widest, least > 1e-9 ? 46 / Math.sqrt(least) : 0)));
 }
 
-function draw(rule, marks) {
-  const unit = unitOf(rule), columns = rule.kinds.length >= 4 ? 2 : 1, body = [];
+function draw(rule, marks, columns = rule.kinds.length >= 4 ? 2 : 1) {
+  const unit = unitOf(rule), body = [];
   const panels = rule.kinds.map(
       (_, k) => [prototilePanel(rule, k, unit, marks), childrenPanel(rule, k, unit, marks)]);
   const width = [0, 1].map((i) => Math.max(...panels.map((pair) => box(pair[i].polygon).wide)));
@@ -328,6 +328,9 @@ function draw(rule, marks) {
   const head = `<svg xmlns="http://www.w3.org/2000/svg" ${size} ${style}>`;
   return [head, `<rect width="${w}" height="${h}" fill="white"/>`, ...body, "</svg>", ""].join("\n");
 }
+
+/** The picture of a rule file, a kind below the other. */
+export const rulePicture = (file) => draw(new Rule(documentOf(file)), new Marks(), 1);
 
 /** The picture of a rule file's fault, with a sentence about it. `words` are those of the refusal, from the
  * fault's name

@@ -7,23 +7,26 @@ import { supertileAt, tileAt } from "./near.js";
 import { paint } from "./painter.js";
 import { starsIn } from "./stars.js";
 import { boardOf, commandOf, pngOf, svgOf } from "./files.js";
-import { faultPicture } from "./rule-picture.js";
+import { faultPicture, rulePicture } from "./rule-picture.js";
 
 let engine = null; // a promise of it
-const files = new Map(); // the text of each rule file, or the name of a built-in rule
+const rules = new Map(); // by name: the text of the rule file, and the name by which the rule is built in
 const opened = new Map();
 
 /** The tiling that a look names. */
 async function drawableOf(name) {
-  if (!opened.has(name)) opened.set(name, new Drawable(name, (await engine).open(files.get(name))));
+  if (!opened.has(name)) {
+    const { file, builtIn } = rules.get(name);
+    opened.set(name, new Drawable(name, (await engine).open(builtIn ?? file)));
+  }
   return opened.get(name);
 }
 
 const questions = {
   /** The engine as the page has it, and the rules that there are. */
-  begin({ engine: packed, rules }) {
+  begin({ engine: packed, rules: given }) {
     engine = bytesOf(packed).then((bytes) => Engine.load(bytes));
-    for (const [name, rule] of Object.entries(rules)) files.set(name, rule);
+    for (const { name, ...rule } of given) rules.set(name, rule);
   },
 
   async open({ name }) {
@@ -32,16 +35,22 @@ const questions = {
 
   /** A rule file of the reader's own: what `open` answers, or its fault with a picture. */
   async openFile({ name, bytes }) {
+    const file = new TextDecoder().decode(bytes);
     try {
       const drawable = new Drawable(name, (await engine).open(bytes));
       opened.set(name, drawable);
+      rules.set(name, { file });
       return { told: drawable.told() };
     } catch (refusal) {
       if (!refusal.status) throw refusal;
-      const text = new TextDecoder().decode(bytes);
-      return { refused: { ...toldRefusal(refusal),
-          ...faultPicture(text, refusal.line.split(" ").slice(2)) } };
+      const words = refusal.line.split(" ").slice(2);
+      return { refused: { ...toldRefusal(refusal), ...faultPicture(file, words) } };
     }
+  },
+
+  /** The picture of a rule. */
+  rulePicture({ name }) {
+    return rulePicture(rules.get(name).file);
   },
 
   /** How many stars there are. */
