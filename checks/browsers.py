@@ -99,6 +99,10 @@ class Chromium:
             raise Trouble(told.get("exception", {}).get("description", told["text"]))
         return answer["result"].get("value")
 
+    def add(self, script):
+        """Runs a script of definitions in the page."""
+        self.js(f"{script}\ntrue")
+
     def size(self, width, height, ratio=1, phone=False, scheme="light"):
         self.ask(
             "Emulation.setDeviceMetricsOverride",
@@ -254,16 +258,19 @@ class Firefox:
         return value
 
     def js(self, text):
+        """As that of Chromium. The page forbids eval, so the expression is a part of the script."""
         script = (
-            "const done = arguments[0]; Promise.resolve().then(() => window.eval(" + json.dumps(text) + "))"
+            f"const done = arguments[0]; Promise.resolve().then(() => ({text}))"
             ".then(value => done({value}), fault => done({fault: String(fault)}))"
         )
-        told = self.ask("WebDriver:ExecuteAsyncScript", script=script, args=[], newSandbox=False, sandbox="")[
-            "value"
-        ]
+        told = self.ask("WebDriver:ExecuteAsyncScript", script=script, args=[], newSandbox=False)["value"]
         if told.get("fault"):
             raise Trouble(told["fault"])
         return told.get("value")
+
+    def add(self, script):
+        """Runs a script of definitions in the page."""
+        self.ask("WebDriver:ExecuteScript", script=script, args=[], newSandbox=False)
 
     def size(self, width, height, ratio=1, phone=False, scheme="light"):
         """A window whose page has this size; Firefox is neither a phone nor dark here."""

@@ -20,7 +20,7 @@ from browsers import Chromium, Firefox, Trouble  # noqa: E402
 
 PAGE = "file://" + os.path.join(TOP, "docs", "explore.html")
 with open(os.path.join(TOP, "checks", "explore.js"), encoding="utf-8") as helpers:
-    HELPERS = helpers.read() + "\ntrue"
+    HELPERS = helpers.read()
 BUILT_IN = {
     "penrose_p3": "p3",
     "penrose_p2": "p2",
@@ -167,7 +167,7 @@ class Page:
         """The page anew, at a view as its address has it."""
         self.browser.open(PAGE + view)
         self.ready()
-        self.js(HELPERS)
+        self.browser.add(HELPERS)
 
     def at(self, place, **more):
         name, tiles, seed, at = place
