@@ -6,6 +6,9 @@
 
 const BLOCK = 512; // pixels, about
 const UNDER_WAY = 2; // blocks that a worker has at a time
+const LARGER = 1.6, SMALLER = 1.4;
+    // so many times larger or smaller a layer is shown before the next is begun
+const REST = 80; // milliseconds after which a scale rests
 const SLOW = 20; // milliseconds a frame: where frames take longer, enlarged blocks are not made smooth
 
 class Layer {
@@ -97,14 +100,29 @@ export class Screen {
   choose() {
     const look = this.lookOf();
     if (!look) return;
-    const { at, scale } = this.state, { ratio } = this,
+    const { at, scale } = this.state, { ratio, top } = this,
         place = `${look.tiling} ${look.seed} ${look.base} ${at}`;
-    const key = JSON.stringify([look, at, ratio]), { top } = this, isSame = top?.key === key;
-    if (isSame && (top.scale === scale * ratio || this.isPainting(top))) return;
+    const key = JSON.stringify([look, at, ratio]);
+    if (top?.key === key && !this.needsScale(top, scale * ratio)) return;
     const kept = [top, this.under].find((layer) => layer?.place === place && layer.hasBitmaps) ?? null;
     for (const layer of [top, this.under]) if (layer !== kept) layer?.forgetAll();
     this.under = kept;
     this.top = this.newLayer(look, key, place);
+  }
+
+  /** Whether a layer is to be painted again at another scale: when that rests, or is far from the layer's
+   * own. */
+  needsScale(layer, scale) {
+    if (layer.scale === scale || this.isPainting(layer)) return false;
+    const part = scale / layer.scale;
+    if (part > LARGER || part < 1 / SMALLER) return true;
+    if (this.resting === scale) return true;
+    clearTimeout(this.rest);
+    this.rest = setTimeout(() => {
+      this.resting = scale;
+      this.refresh();
+    }, REST);
+    return false;
   }
 
   newLayer(look, key, place) {
