@@ -4,6 +4,20 @@
 
 const LIGHT = "#ffffff", DARK = "#10181d", ACCENT = "#f4b860";
 const NUMBER = 12; // pixels: the size of the numbers of edges
+const INWARDS = [0.85, 0.6, 0.35]; // how far inside of an edge its number may be, in such sizes
+
+/** Places next to the middles of a polygon's edges, inside of it. */
+function numberSpots(corners, inwards) {
+  return corners.map(([x, y], i) => {
+    const [nextX, nextY] = corners[(i + 1) % corners.length],
+        part = inwards / Math.hypot(nextX - x, nextY - y);
+    return [(x + nextX) / 2 + (nextY - y) * part, (y + nextY) / 2 - (nextX - x) * part];
+  });
+}
+
+/** Whether numbers at these places don't touch. */
+const areApart = (spots) =>
+  spots.every(([x, y], i) => spots.slice(0, i).every(([a, b]) => Math.hypot(a - x, b - y) > 1.3 * NUMBER));
 
 export class Marks {
   constructor(canvas, state) {
@@ -74,19 +88,15 @@ export class Marks {
     this.pen.stroke();
   }
 
-  /** The number of each edge inside of it, if there is room. */
+  /** The number of each edge next to it, if there is room. */
   numbers(outline) {
     const { pen } = this, corners = outline.map((corner) => this.place(corner));
-    const edges = corners.map(([x, y], i) => {
-      const [nextX, nextY] = corners[(i + 1) % corners.length], long = Math.hypot(nextX - x, nextY - y);
-      return { x: (x + nextX) / 2, y: (y + nextY) / 2, dx: (nextX - x) / long, dy: (nextY - y) / long, long };
-    });
-    if (edges.some(({ long }) => long < 2.6 * NUMBER)) return;
+    const spots = INWARDS.map((inwards) => numberSpots(corners, inwards * NUMBER)).find(areApart);
+    if (!spots) return;
     pen.font = `600 ${NUMBER}px system-ui, sans-serif`;
     pen.textAlign = "center";
     pen.textBaseline = "middle";
-    edges.forEach(({ x, y, dx, dy }, edge) => {
-      const spot = [x + dy * 0.85 * NUMBER, y - dx * 0.85 * NUMBER];
+    spots.forEach((spot, edge) => {
       pen.lineWidth = 3.5;
       pen.strokeStyle = LIGHT;
       pen.strokeText(edge, ...spot);
