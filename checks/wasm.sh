@@ -87,7 +87,9 @@ for kind in usual heavy; do compare_calls $kind || failed "the $kind calls diffe
 random='no random calls'
 if make_random; then
     compare_random || failed 'the random calls differ'
-    random="$(sed -n 's/^machines .*, calls \([0-9]*\), OK \([0-9]*\), .*/\1 random calls, \2 of them OK/p' "$work/random.node")"
+    random="$(awk '/ OK$/ { functions++; calls += $2; right += $4; share = 100 * $4 / $2; if (!least || share < least) least = share }
+        END { printf "%d random calls of %d functions, %d of them OK, at each at least %d %%", calls, functions, right, least }' \
+        "$work/random.node")"
 fi
 tried=node
 is_there python:selenium || python=python3
@@ -96,7 +98,7 @@ python3 "$tests/make_page.py" "$wasm" "$work/usual.calls" "$@" "$top"/rules/*.to
 for browser in chromium firefox; do compare_browser $browser || failed "$browser answers differently"; done
 
 gcc -O2 -o "$work/int128" "$tests/int128.c" && "$work/int128" > /dev/null || failed 'wasm/int128.c differs from the compiler'
-TILING_WASM=$wasm node --test "$tests" > "$work/tests" 2>&1 || { grep -A 30 '^not ok\|failureType' "$work/tests" | head -n 60 >&2; failed 'tests fail'; }
+TILING_WASM=$wasm node --test --test-reporter=tap "$tests"/*.test.mjs > "$work/tests" 2>&1 || { grep -A 30 '^not ok\|failureType' "$work/tests" | head -n 60 >&2; failed 'tests fail'; }
 "$python" "$tests/example.py" "$top" "$wasm" 2> "$work/example.log"
 case $? in
 0) ;;

@@ -1,4 +1,4 @@
-// Tests of the memory of tiling.wasm: the heap of wasm/heap.c, and running out of memory. node --test tests/wasm/
+// Tests of the memory of tiling.wasm: the heap of wasm/heap.c, and running out of memory. node --test tests/wasm/*.test.mjs
 import assert from "node:assert/strict";
 import { readFileSync } from "node:fs";
 import { test } from "node:test";

@@ -1,4 +1,4 @@
-// Tests of js/pagnetuf.js over the module that TILING_WASM names, or .tiling/tiling.wasm: node --test tests/wasm/
+// Tests of js/pagnetuf.js over the module that TILING_WASM names, or .tiling/tiling.wasm: node --test tests/wasm/*.test.mjs
 // Values are the literature's, those of the worked examples of docs/FORMATS.md, and the command's own texts.
 import assert from "node:assert/strict";
 import { readFileSync, readdirSync } from "node:fs";

@@ -1,5 +1,5 @@
 // Tests of the package: npm pack, npm install of that file without network in an empty folder, and there the examples of
-// docs/JAVASCRIPT.md, each beside what it prints. node --test tests/wasm/
+// docs/JAVASCRIPT.md, each beside what it prints. node --test tests/wasm/*.test.mjs
 import assert from "node:assert/strict";
 import { execFileSync } from "node:child_process";
 import { cpSync, mkdtempSync, readFileSync, readdirSync, rmSync, writeFileSync } from "node:fs";

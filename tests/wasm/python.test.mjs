@@ -1,5 +1,5 @@
 // A board of js/pagnetuf.js, beside that of the Python package, which computes corners, vertices, neighbours and stars by
-// code of its own. It is skipped where Python has no numpy, or finds no engine. node --test tests/wasm/
+// code of its own. It is skipped where Python has no numpy, or finds no engine. node --test tests/wasm/*.test.mjs
 import assert from "node:assert/strict";
 import { spawnSync } from "node:child_process";
 import { readFileSync } from "node:fs";
