@@ -19,6 +19,7 @@ import { startWorkers } from "./start.js";
 const MOST_TILES = { star: 40000, child: 120000 }; // in a view, for colours that take longer
 const MOST_PLAIN = 220000;
 const MOST_FILE = 1 << 20, MOST_KEPT = 1 << 16; // bytes of a rule file, and of one in the page's address
+const APART = 12; // pixels between a tile and its card
 const NEAR = 16; // pixels: so near to a corner a click means its star too
 const KEYS = { t: "tilings", l: "look", p: "places", s: "save", h: "help", "?": "help" };
 const FAULTS = {
@@ -314,16 +315,20 @@ class Explorer {
     this.marks.pointed = null;
     this.tileCard.show(tile, null);
     if (tile) this.uncover();
+    if (tile) byId("invitation").classList.add("gone");
     this.showSupertile();
     this.marks.refresh();
   }
 
-  /** Moves the view where the card would hide the tile that is kept. */
+  /** Moves the view where the card hides the tile that is kept: beside a card, or above one as wide as the
+   * view. */
   uncover() {
-    const { kept } = this.marks, card = byId("tile").getBoundingClientRect();
-    if (card.width < this.size[0]) return; // a desk has room next to the card
-    const low = Math.max(...kept.outline.map((corner) => this.marks.place(corner)[1]));
-    if (low > card.top - 12) this.move(0, card.top / 2 - low);
+    const card = byId("tile").getBoundingClientRect(),
+        corners = this.marks.kept.outline.map((it) => this.marks.place(it));
+    const left = Math.min(...corners.map(([x]) => x)), low = Math.max(...corners.map(([, y]) => y));
+    if (low < card.top - APART || left > card.right + APART) return;
+    if (card.width < this.size[0]) this.move(card.right + APART - left, 0);
+    else this.move(0, card.top / 2 - low);
   }
 
   /** Shows the supertile of the tile that is kept, if a level is chosen. */
