@@ -393,6 +393,12 @@ def try_keys(page):
         page.browser.key("Escape")
         page.true(f"Escape closes {card}", page.js(f"document.getElementById('{card}').hidden"))
     page.js("document.getElementById('tiling').focus()")
+    page.browser.key("f")
+    page.true("f leaves the tiling alone", page.js("!document.getElementById('bar').offsetParent"))
+    page.browser.key("Escape")
+    page.true(
+        "Escape brings the controls back", page.js("Boolean(document.getElementById('bar').offsetParent)")
+    )
     page.browser.key("Home")
     page.true("Home goes back", abs(page.place()[0]) < 1e-9)
 
@@ -422,7 +428,7 @@ def try_address(page):
 def try_saving(page):
     """The command that is copied draws the tiles of the view; SVG and PNG are of the view, the board is
     right."""
-    for place in PLACES[:3] + PLACES[5:7]:
+    for place in PLACES[:4] + PLACES[5:7]:
         page.at(place)
         name, tiles, seed, _ = place
         page.js("explorer.cards.show('save')")

@@ -247,11 +247,21 @@ class Explorer {
     this.change({ at, x: 0, y: 0 });
   }
 
+  /** Keys of the tiling that don't move it; the answer is whether it is one. */
   key(key) {
-    const card = KEYS[key.toLowerCase()];
+    const letter = key.toLowerCase(), card = KEYS[letter];
     if (card) this.cards.toggle(card, byId("tiling"));
-    else if (key === "Escape") this.cards.open ? this.cards.close(true) : this.keep(null);
-    return Boolean(card) || key === "Escape";
+    else if (letter === "f") document.body.classList.toggle("bare");
+    else if (key === "Escape") this.escape();
+    else return false;
+    return true;
+  }
+
+  /** Goes one step back: to the controls, without a card, without a tile. */
+  escape() {
+    if (document.body.classList.contains("bare")) document.body.classList.remove("bare");
+    else if (this.cards.open) this.cards.close(true);
+    else this.keep(null);
   }
 
   cross(isShown) {
