@@ -1,0 +1,32 @@
+// What people write in TypeScript, against js/pagnetuf.d.ts: tsc --noEmit. It is compiled, and never run.
+import { Address, Board, Engine, Named, Patch, Refusal, Tiling, WholePatch, Window } from "../../js/pagnetuf.js";
+
+async function use(): Promise<void> {
+  const engine: Engine = await Engine.load(new URL("tiling.wasm", "file:///"));
+  const other = await Engine.load(fetch("tiling.wasm"));
+  const third = await Engine.load(new Uint8Array(8));
+  const p3: Tiling = engine.open("p3");
+  const turn: number = p3.place("2:1/0,0/0").turn;
+  const text: string = p3.neighbour("2:1/0,0/0", 2).address;
+  const object: Address = p3.neighbour({ kind: 2, digits: [] }, turn).address;
+  const bytes: Uint8Array = p3.neighbour(p3.bytes(text), 2).address;
+  const window: Window = p3.window({ at: [0, 0, 0, 0], half: [20, 12], seed: [1, 2] });
+  const wholes: WholePatch = window.whole().connected(60);
+  const halves: Named<string>[] = wholes.halves(0);
+  const kinds: Uint8Array = wholes.kinds, xy: Float64Array = wholes.xy(), shifts: Int32Array = window.shifts;
+  const patch: Patch = window.supertiles(2).chosen([0]);
+  const board: Board = patch.toJSON(), star: string = p3.star(text, 0).map((it) => it.address).join();
+  const svg: string = p3.draw({ layers: ["svg", "list"], whole: true }) + wholes.toSVG({ colours: (tile) => `#${tile}` });
+  try {
+    engine.call(["place", "rule=p3", "addr=2:1/0"], bytes);
+  } catch (refusal) {
+    if (refusal instanceof Refusal && refusal.name === "Outside") console.log(refusal.status, refusal.fields[0]);
+  }
+  console.log(other.closed, third.memoryBytes, object.digits[0].child, halves, kinds, xy, shifts, board, star, svg);
+  // @ts-expect-error: there is no such layer
+  p3.draw({ layers: ["png"] });
+  // @ts-expect-error: a seed is no BigInt
+  p3.window({ seed: 5n });
+}
+
+export { use };
