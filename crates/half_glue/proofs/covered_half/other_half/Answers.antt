@@ -1,4 +1,5 @@
-use Rattle.std.proofs.Common.{◌<◌, ◌^◌, [], ◌∷◌, length, None, Some, IfSome, sym, ◌∙◌, subst}
+use Rattle.std.proofs.Common.{◌<◌, ◌^◌, [], ◌∷◌, length, None, Some, IfSome, sym, ◌∙◌, subst, arith}
+use Rattle.std.proofs.lemmas.Grind.{common_steps}
 use Rattle.rule_model.specs.Glue.{IsOnlyGlueEdge}
 use Rattle.rule_model.specs.Tiling.{tiling_of}
 use Rattle.tile_place.specs.declared.placed_tile.PlacedTile.{PlacedTile}
@@ -126,3 +127,60 @@ returns-clause-least g c = λ n l h.
     subst (λ (x : PlacedTile). IsTooShallow (tiling_of c.args.machine.now) c.args.frame.now (x ∷ []) n)
     (sym (tile-is c.args.tiles.now c.args.number c.requires.below c.tile-tile.result c.tile-tile.ensures))
     (c.in_ok-other.ensures.least n l h)
+
+pub kind-kind-requires : goal.kind-kind-requires
+kind-kind-requires g c = grind (arith, common_steps)
+
+pub returns-in-None-clause-frame : goal.returns-in-None-clause-frame
+returns-in-None-clause-frame g c = grind (arith, common_steps)
+
+pub returns-in-None-clause-least : goal.returns-in-None-clause-least
+returns-in-None-clause-least g c = grind (arith, common_steps)
+
+pub returns-in-None-clause-answered : goal.returns-in-None-clause-answered
+returns-in-None-clause-answered g c = grind (arith, common_steps)
+
+pub returns-in-None-clause-cause : goal.returns-in-None-clause-cause
+returns-in-None-clause-cause g c = grind (arith, common_steps)
+
+pub motion-motion-requires : goal.motion-motion-requires
+motion-motion-requires g c = grind (arith, common_steps)
+
+pub half_among-requires-clause-few : goal.half_among-requires-clause-few
+half_among-requires-clause-few g c = grind (arith, common_steps)
+
+pub half_among-requires-clause-in_order : goal.half_among-requires-clause-in_order
+half_among-requires-clause-in_order g c = grind (arith, common_steps)
+
+pub returns-in-Some-half_among-clause-frame : goal.returns-in-Some-half_among-clause-frame
+returns-in-Some-half_among-clause-frame g c = grind (arith, common_steps)
+
+pub returns-in-Some-half_among-clause-least : goal.returns-in-Some-half_among-clause-least
+returns-in-Some-half_among-clause-least g c = grind (arith, common_steps)
+
+pub returns-in-Some-half_among-clause-answered : goal.returns-in-Some-half_among-clause-answered
+returns-in-Some-half_among-clause-answered g c = grind (arith, common_steps)
+
+pub returns-in-Some-half_among-clause-cause : goal.returns-in-Some-half_among-clause-cause
+returns-in-Some-half_among-clause-cause g c = grind (arith, common_steps)
+
+pub tile-tile-requires : goal.tile-tile-requires
+tile-tile-requires g c = grind (arith, common_steps)
+
+pub crossed_half-requires-clause-frame : goal.crossed_half-requires-clause-frame
+crossed_half-requires-clause-frame g c = grind (arith, common_steps)
+
+pub returns-in_err-other-clause-frame : goal.returns-in_err-other-clause-frame
+returns-in_err-other-clause-frame g c = grind (arith, common_steps)
+
+pub returns-in_err-other-clause-joined : goal.returns-in_err-other-clause-joined
+returns-in_err-other-clause-joined g c = grind (arith, common_steps)
+
+pub returns-clause-frame : goal.returns-clause-frame
+returns-clause-frame g c = grind (arith, common_steps)
+
+pub returns-clause-answered : goal.returns-clause-answered
+returns-clause-answered g c = grind (arith, common_steps)
+
+pub returns-clause-cause : goal.returns-clause-cause
+returns-clause-cause g c = grind (arith, common_steps)

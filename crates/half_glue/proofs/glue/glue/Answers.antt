@@ -1,4 +1,5 @@
-use Rattle.std.proofs.Common.{List, IfOk, OnOk, length, subst}
+use Rattle.std.proofs.Common.{List, IfOk, OnOk, length, subst, arith}
+use Rattle.std.proofs.lemmas.Grind.{common_steps, elements}
 use Rattle.std.proofs.lemmas.Result.{IfOk-weaker}
 use Rattle.rule_model.specs.Tiling.{tiling_of}
 use Rattle.tile_place.specs.declared.placed_tile.PlacedTile.{PlacedTile}
@@ -25,3 +26,27 @@ pub returns-clause-within : goal.returns-clause-within
 returns-clause-within c =
     subst (λ (ts : List PlacedTile). OnOk c.glued.result (CanBeGlued (tiling_of c.args.machine.now) c.args.frame.now ts))
     c.as_slice.ensures.value (IfOk-weaker c.glued.result _ _ (λ wholes h. h.within) c.glued.ensures.glued)
+
+pub glued-requires-clause-name : goal.glued-requires-clause-name
+glued-requires-clause-name c = grind (arith, common_steps)
+
+pub glued-requires-clause-parts : goal.glued-requires-clause-parts
+glued-requires-clause-parts c = grind (arith, common_steps)
+
+pub glued-requires-clause-some : goal.glued-requires-clause-some
+glued-requires-clause-some c = grind (arith, common_steps)
+
+pub glued-requires-clause-to_glue : goal.glued-requires-clause-to_glue
+glued-requires-clause-to_glue c = grind (arith, common_steps)
+
+pub returns-clause-frame : goal.returns-clause-frame
+returns-clause-frame c = grind (arith, common_steps)
+
+pub returns-clause-not_beyond : goal.returns-clause-not_beyond
+returns-clause-not_beyond c = grind (arith, common_steps)
+
+pub returns-clause-answered : goal.returns-clause-answered
+returns-clause-answered c = grind (arith, elements)
+
+pub returns-clause-cause : goal.returns-clause-cause
+returns-clause-cause c = grind (arith, common_steps)

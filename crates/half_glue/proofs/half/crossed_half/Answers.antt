@@ -1,4 +1,5 @@
-use Rattle.std.proofs.Common.{◌≡◌, ◌<◌, refl, sym, ap, ◌∙◌, subst}
+use Rattle.std.proofs.Common.{◌≡◌, ◌<◌, refl, sym, ap, ◌∙◌, subst, arith}
+use Rattle.std.proofs.lemmas.Grind.{common_steps, elements}
 use Rattle.theory_frames.specs.Frame.{lifted_in}
 use Rattle.rule_model.specs.Glue.{IsGlueEdge}
 use Rattle.rule_model.specs.Tiling.{tiling_of}
@@ -104,3 +105,60 @@ returns-clause-can_be_joined g c =
 pub returns-clause-least : goal.returns-clause-least
 returns-clause-least g c = λ n l h. alone-shallow (tiling_of c.args.machine.now) c.args.frame.now c.args.tile.now c.args.edge n
     c.requires.glue_edge.glue_edge _ c.copy-across.ensures.seen (c.in_ok-back.ensures.least n l h)
+
+pub cross_grow_in_place-requires-clause-frame : goal.cross_grow_in_place-requires-clause-frame
+cross_grow_in_place-requires-clause-frame g c = grind (arith, common_steps)
+
+pub cross_grow_in_place-requires-clause-of_frame : goal.cross_grow_in_place-requires-clause-of_frame
+cross_grow_in_place-requires-clause-of_frame g c = grind (arith, common_steps)
+
+pub returns-in_err-back-clause-frame : goal.returns-in_err-back-clause-frame
+returns-in_err-back-clause-frame g c = grind (arith, common_steps)
+
+pub returns-in_err-back-clause-crossed : goal.returns-in_err-back-clause-crossed
+returns-in_err-back-clause-crossed g c = grind (arith, common_steps)
+
+pub returns-in_err-back-clause-inside : goal.returns-in_err-back-clause-inside
+returns-in_err-back-clause-inside g c = grind (arith, common_steps)
+
+pub returns-in_err-back-clause-can_be_joined : goal.returns-in_err-back-clause-can_be_joined
+returns-in_err-back-clause-can_be_joined g c = grind (arith, common_steps)
+
+pub returns-in_err-back-clause-answered : goal.returns-in_err-back-clause-answered
+returns-in_err-back-clause-answered g c = grind (arith, elements)
+
+pub placed_beside-other-requires-clause-frame : goal.placed_beside-other-requires-clause-frame
+placed_beside-other-requires-clause-frame g c = grind (arith, common_steps)
+
+pub placed_beside-other-requires-clause-glue_edge : goal.placed_beside-other-requires-clause-glue_edge
+placed_beside-other-requires-clause-glue_edge g c = grind (arith, common_steps)
+
+pub placed_beside-other-requires-clause-of_frame : goal.placed_beside-other-requires-clause-of_frame
+placed_beside-other-requires-clause-of_frame g c = grind (arith, common_steps)
+
+pub placed_beside-other-requires-clause-at_depth : goal.placed_beside-other-requires-clause-at_depth
+placed_beside-other-requires-clause-at_depth g c = grind (arith, common_steps)
+
+pub refused-requires : goal.refused-requires
+refused-requires g c = grind (arith, common_steps)
+
+pub returns-then-refused-clause-frame : goal.returns-then-refused-clause-frame
+returns-then-refused-clause-frame g c = grind (arith, common_steps)
+
+pub returns-then-refused-clause-crossed : goal.returns-then-refused-clause-crossed
+returns-then-refused-clause-crossed g c = grind (arith, common_steps)
+
+pub returns-then-refused-clause-inside : goal.returns-then-refused-clause-inside
+returns-then-refused-clause-inside g c = grind (arith, common_steps)
+
+pub returns-then-refused-clause-can_be_joined : goal.returns-then-refused-clause-can_be_joined
+returns-then-refused-clause-can_be_joined g c = grind (arith, common_steps)
+
+pub returns-clause-frame : goal.returns-clause-frame
+returns-clause-frame g c = grind (arith, common_steps)
+
+pub returns-clause-answered : goal.returns-clause-answered
+returns-clause-answered g c = grind (arith, common_steps)
+
+pub returns-clause-cause : goal.returns-clause-cause
+returns-clause-cause g c = grind (arith, common_steps)

@@ -1,4 +1,5 @@
-use Rattle.std.proofs.Common.{◌≡◌, map, ap, ◌∙◌, subst}
+use Rattle.std.proofs.Common.{◌≡◌, map, ap, ◌∙◌, subst, arith}
+use Rattle.std.proofs.lemmas.Grind.{common_steps}
 use Rattle.std.proofs.lemmas.Result.{IfOk-from_err}
 use Rattle.cyclo_points.specs.Order.{points_of}
 use Rattle.rule_model.specs.declared.rule.Rule.{Rule}
@@ -79,3 +80,51 @@ returns-in_err-cover-clause-frame c = c.in_err-cover.ensures.frame
 
 pub returns-in_err-cover-clause-not_beyond : goal.returns-in_err-cover-clause-not_beyond
 returns-in_err-cover-clause-not_beyond c = c.in_err-cover.ensures.not_beyond
+
+pub end_laws-requires : goal.end_laws-requires
+end_laws-requires c = grind (arith, common_steps)
+
+pub grown_fits_law-requires : goal.grown_fits_law-requires
+grown_fits_law-requires c = grind (arith, common_steps)
+
+pub order-order-requires : goal.order-order-requires
+order-order-requires c = grind (arith, common_steps)
+
+pub frame_limits_law-requires : goal.frame_limits_law-requires
+frame_limits_law-requires c = grind (arith, common_steps)
+
+pub frame_window_law-requires : goal.frame_window_law-requires
+frame_window_law-requires c = grind (arith, common_steps)
+
+pub uses-requires : goal.uses-requires
+uses-requires c = grind (arith, common_steps)
+
+pub kinds-usable-requires : goal.kinds-usable-requires
+kinds-usable-requires c = grind (arith, common_steps)
+
+pub searched-requires-clause-name : goal.searched-requires-clause-name
+searched-requires-clause-name c = grind (arith, common_steps)
+
+pub searched-requires-clause-parts : goal.searched-requires-clause-parts
+searched-requires-clause-parts c = grind (arith, common_steps)
+
+pub searched-requires-clause-some : goal.searched-requires-clause-some
+searched-requires-clause-some c = grind (arith, common_steps)
+
+pub searched-requires-clause-frame : goal.searched-requires-clause-frame
+searched-requires-clause-frame c = grind (arith, common_steps)
+
+pub searched-requires-clause-window_fits : goal.searched-requires-clause-window_fits
+searched-requires-clause-window_fits c = grind (arith, common_steps)
+
+pub arranged-requires-clause-none_open : goal.arranged-requires-clause-none_open
+arranged-requires-clause-none_open c = grind (arith, common_steps)
+
+pub returns-clause-not_beyond : goal.returns-clause-not_beyond
+returns-clause-not_beyond c = grind (arith, common_steps)
+
+pub returns-clause-answered : goal.returns-clause-answered
+returns-clause-answered c = grind (arith, common_steps)
+
+pub returns-clause-cause : goal.returns-clause-cause
+returns-clause-cause c = grind (arith, common_steps)

@@ -1,4 +1,5 @@
-use Rattle.std.proofs.Common.{All, map, sym, subst}
+use Rattle.std.proofs.Common.{All, map, sym, subst, arith}
+use Rattle.std.proofs.lemmas.Grind.{common_steps}
 use Rattle.rule_model.specs.Tiling.{tiling_of}
 use Rattle.tile_place.specs.Searched.{placed_in}
 use Rattle.lazy_walk.specs.Standing.{Stands}
@@ -42,3 +43,27 @@ returns-clause-covered c =
     let m = c.args.machine.now in
     subst (λ ts. CoverWindow (tiling_of m) c.by_search.new.frame c.args.window.now
     (map (placed_in m.order) ts)) (sym c.in_ok-listed.ensures) c.in_ok-tiles.ensures.found.covered
+
+pub by_search-requires-clause-frame : goal.by_search-requires-clause-frame
+by_search-requires-clause-frame c = grind (arith, common_steps)
+
+pub by_search-requires-clause-window_fits : goal.by_search-requires-clause-window_fits
+by_search-requires-clause-window_fits c = grind (arith, common_steps)
+
+pub listed-requires : goal.listed-requires
+listed-requires c = grind (arith, common_steps)
+
+pub returns-clause-in_order : goal.returns-clause-in_order
+returns-clause-in_order c = grind (arith, common_steps)
+
+pub returns-clause-least : goal.returns-clause-least
+returns-clause-least c = grind (arith, common_steps)
+
+pub returns-clause-not_beyond : goal.returns-clause-not_beyond
+returns-clause-not_beyond c = grind (arith, common_steps)
+
+pub returns-clause-answered : goal.returns-clause-answered
+returns-clause-answered c = grind (arith, common_steps)
+
+pub returns-clause-cause : goal.returns-clause-cause
+returns-clause-cause c = grind (arith, common_steps)

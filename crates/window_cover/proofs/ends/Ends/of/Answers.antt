@@ -1,4 +1,5 @@
-use Rattle.std.proofs.Common.{◌≡◌, rules}
+use Rattle.std.proofs.Common.{◌≡◌, rules, arith}
+use Rattle.std.proofs.lemmas.Grind.{common_steps}
 use Rattle.cyclo_points.specs.Point.{coefficient}
 use Rattle.window_cover.specs.Packed.{word_of}
 use Rattle.window_cover.proofs.SameEnds.{same_words}
@@ -13,3 +14,9 @@ returns c =
     let d : c.word-3.result ≡ word_of (coefficient q 0) (coefficient q 1) = search rules in
     let e : c.word-4.result ≡ word_of (coefficient q 2) (coefficient q 3) = search rules in
     same_words a b d e
+
+pub word-requires-clause-a_within : goal.word-requires-clause-a_within
+word-requires-clause-a_within c = grind (arith, common_steps)
+
+pub word-requires-clause-b_within : goal.word-requires-clause-b_within
+word-requires-clause-b_within c = grind (arith, common_steps)

@@ -1,4 +1,5 @@
-use Rattle.std.proofs.Common.{rules, ◌≡◌, ◌+◌, ◌*◌, ◌<◌, ◌^◌, sym, ◌∙◌, subst}
+use Rattle.std.proofs.Common.{rules, ◌≡◌, ◌+◌, ◌*◌, ◌<◌, ◌^◌, sym, ◌∙◌, subst, arith}
+use Rattle.std.proofs.lemmas.Grind.{common_steps}
 use Rattle.cyclo_points.specs.Point.{coefficient}
 use Rattle.window_cover.specs.Words.{offset_in, tile_word}
 use Rattle.window_cover.proofs.WordOrder.{DoFit, do-fit, word_1, word_2, word_3, word_4, word_5}
@@ -88,3 +89,15 @@ returns c =
     let p = goal.at.returns c in
     c.joined.ensures ∙ word-6 p.After-from-3 (word-5 p.After-from-2 (word-4 p.After-from (word-3 p.After-place-3
     (word-2 p.After-place-2 (word-1 p.After-place)))))
+
+pub place-a0-requires-clause-span : goal.place-a0-requires-clause-span
+place-a0-requires-clause-span c = grind (arith, common_steps)
+
+pub place-a0-requires-clause-held : goal.place-a0-requires-clause-held
+place-a0-requires-clause-held c = grind (arith, common_steps)
+
+pub count-requires : goal.count-requires
+count-requires c = grind (arith, common_steps)
+
+pub place-requires-clause-span : goal.place-requires-clause-span
+place-requires-clause-span c = grind (arith, common_steps)

@@ -1,4 +1,5 @@
 use Rattle.std.proofs.Common.{◌≡◌, length, suc, ◌+◌, ◌<◌, ◌≤◌, ℕ, [], ◌∷◌, ◌++◌, take, sym, ap, ap₂, ◌∙◌, subst, arith, take_all}
+use Rattle.std.proofs.lemmas.Grind.{common_steps}
 use Rattle.cyclo_points.specs.declared.motion.Motion.{Motion}
 use Rattle.window_cover.specs.Covered.{tile_of}
 use Rattle.window_cover.specs.Found.{Found}
@@ -62,3 +63,21 @@ returns-clause-words c =
     let found = seen c.args.self.now in
     let all : length found ≤ c.loop-number.number = omega (arith, c.loop-number-test.false, c.len-count.ensures) in
     c.loop-number.invariant ∙ ap (words_from c.args.fields.now 0) (take_all c.loop-number.number found all)
+
+pub loop-number-init : goal.loop-number-init
+loop-number-init c = grind (arith, common_steps)
+
+pub place-kind-requires-clause-runs : goal.place-kind-requires-clause-runs
+place-kind-requires-clause-runs c = grind (arith, common_steps)
+
+pub place-kind-requires-clause-below : goal.place-kind-requires-clause-below
+place-kind-requires-clause-below c = grind (arith, common_steps)
+
+pub overflow_cast-number : goal.overflow_cast-number
+overflow_cast-number c = grind (arith, common_steps)
+
+pub word-requires-clause-fields : goal.word-requires-clause-fields
+word-requires-clause-fields c = grind (arith, common_steps)
+
+pub word-requires-clause-fit : goal.word-requires-clause-fit
+word-requires-clause-fit c = grind (arith, common_steps)
