@@ -1,5 +1,7 @@
 """Compares include/tiling.h with its source: each function with its parameters as C sees them, each status with
-its number, and each plain value with its fields. Called by checks/library.sh with the repository's folder."""
+its number, the number of the interface, and each plain value with its fields. A parameter has the same name in both;
+the length of an array is the header's NAME_bytes, NAME_room, NAME_count, NAME_edges, bytes, room or count. Called by
+checks/header.sh with the repository's folder."""
 
 import re
 import sys
@@ -27,15 +29,15 @@ def c_name(rust_name: str) -> str:
     return "tiling_" + "_".join(words).lower()
 
 
-def c_parameters(rust_type: str) -> list[str]:
+def c_parameters(name: str, rust_type: str) -> list[str]:
     """What C passes for a parameter: nothing for the allocator, a pointer and a length for a slice."""
     if rust_type == "Global":
         return []
     if by_value := re.fullmatch(r"\w+", rust_type):
-        return [c_name(by_value[0])]
-    is_mutable, is_slice, name = re.fullmatch(r"&(mut )?(\[)?(\w+)\]?", rust_type).groups()
-    pointer = f"{'' if is_mutable else 'const '}{c_name(name)} *"
-    return [pointer, "size_t"] if is_slice else [pointer]
+        return [f"{c_name(by_value[0])} {name}"]
+    is_mutable, is_slice, of = re.fullmatch(r"&(mut )?(\[)?(\w+)\]?", rust_type).groups()
+    pointer = f"{'' if is_mutable else 'const '}{c_name(of)} *{name}"
+    return [pointer, f"size_t of {name}"] if is_slice else [pointer]
 
 
 def exports(source: str) -> dict[str, list[str]]:
@@ -43,10 +45,9 @@ def exports(source: str) -> dict[str, list[str]]:
     found = {}
     form = r'#\[unsafe\(no_mangle\)\]\s*pub extern "C" fn (\w+)\(([^)]*)\)(?: -> (\w+))?'
     for name, parameters, result in re.findall(form, source):
-        types = [text.split(":", 1)[1].strip() for text in parameters.split(",") if text.strip()]
         found[name] = [NUMBERS[result] if result else "void"]
-        for rust_type in types:
-            found[name] += c_parameters(rust_type)
+        for text in filter(str.strip, parameters.split(",")):
+            found[name] += c_parameters(*(word.strip() for word in text.split(":", 1)))
     return found
 
 
@@ -61,9 +62,13 @@ def declared(header: str) -> dict[str, list[str]]:
     found = {}
     for result, name, parameters in re.findall(r"^(\w+) (tiling_\w+)\(([^)]*)\);", header, re.M):
         found[name] = [plain(result)]
-        for parameter in parameters.split(","):
-            if parameter.strip() != "void":
-                found[name].append(plain(re.fullmatch(r"(.*?)\w+", parameter.strip())[1]))
+        before = ""
+        for parameter in (text.strip() for text in parameters.split(",")):
+            if parameter != "void":
+                c_type, own = re.fullmatch(r"(.*?)(\w+)", parameter).groups()
+                is_length = plain(c_type) == "size_t" and re.fullmatch(rf"({before}_)?(bytes|room|count|edges)", own)
+                found[name].append(f"size_t of {before}" if is_length else plain(c_type) + " " * (c_type[-1] != "*") + own)
+                before = own
     return found
 
 
@@ -103,6 +108,7 @@ def main(top: Path) -> int:
     values += (top / "crates/tile_shape/src/step.rt").read_text()
     of_source = statuses(values + calls, r"pub const ([A-Z_]+): u8 = (\d+);")
     pairs = [
+        ("interface", statuses(calls, r"const (ABI): u32 = (\d+);"), statuses(header, r"#define TILING_(ABI) (\d+)")),
         ("functions", exports(calls), declared(header)),
         ("statuses", of_source, statuses(header, r"TILING_([A-Z_]+) = (\d+)")),
         ("plain values", structs_of_source(values), structs_of_header(header)),
@@ -110,13 +116,13 @@ def main(top: Path) -> int:
     faults = 0
     for what, ours, theirs in pairs:
         if not ours:
-            print(f"library: the source has no {what}", file=sys.stderr)
+            print(f"header: the source has no {what}", file=sys.stderr)
             faults += 1
         for name in sorted(ours.keys() | theirs.keys()):
             source, told = ours.get(name), theirs.get(name)
             if source != told:
                 faults += 1
-                print(f"library: {what}: {name}: source {source}, header {told}", file=sys.stderr)
+                print(f"header: {what}: {name}: source {source}, header {told}", file=sys.stderr)
     return int(faults > 0)
 
 

@@ -85,19 +85,10 @@ assert len(json.load(open("board.json"))["tiles"]) == 60' || failed 'tiling boar
     "$tiling" board nonsense > /dev/null 2> "$work/err" && failed 'tiling board nonsense is taken'
     grep -q '^tiling board: ' "$work/err" || failed 'a message names another command'
     "$tiling" board --help | grep -q '^usage: tiling board' || failed 'tiling board --help'
-    "$tiling" explore --port 0 > page &
-    server=$!
-    for _ in 1 2 3 4 5 6 7 8 9 10 11 12 13 14 15 16 17 18 19 20; do [ -s page ] || sleep 0.2; done
-    "$python" -c '
-import json, sys, urllib.request
-at = open("page").read().strip()
-rules = json.load(urllib.request.urlopen(at + "rules"))
-assert "sphinx.toml" in rules["files"] and "p3" in rules["built_in"]
-view = urllib.request.urlopen(at + "view?rule=p3&seed=0&addr=0:&at=0,0,0,0&half=20,12&halves=0").read()
-words = json.loads(view[4:4 + int.from_bytes(view[:4], "little")])["words"]
-assert words.startswith("tiling draw rule=p3 "), words' || failed 'tiling explore'
-    kill $server
-    wait $server 2> /dev/null
+    "$tiling" explore sphinx --seed 3 --print > page && grep -q '#seed=3&base=0:&at=0,0,0,0&tiling=sphinx$' page \
+        && "$python" -c '
+import sys, urllib.request
+assert b"tiling-wasm" in urllib.request.urlopen(open("page").read().strip()).read()' || failed 'tiling explore'
     PYTHONPATH="$prefix/lib/python3/dist-packages" "$python" -c '
 import sys, pagnetuf
 assert pagnetuf.find_program() == sys.argv[1] + "/lib/tiling/program", pagnetuf.find_program()

@@ -8,7 +8,8 @@
  * A call that returns a tiling_status returns the command's exit code. After any status except TILING_OK, the
  * outputs of the call are unchanged, unless its comment says otherwise. No library can test the following, so
  * a caller must ensure it:
- *   - each pointer leads to the stated number of values; if the number is 0, any valid pointer will do;
+ *   - each pointer leads to the stated number of values. NULL never does, not even to 0 values; a pointer to
+ *     anything does to 0. What a call fills may be memory that was never written;
  *   - what a call fills overlaps nothing else that it is passed;
  *   - a tiling_machine comes from tiling_open, tiling_open_file or tiling_share of this library.
  * All else is tested and refused: no number, address or array of numbers makes a call do harm.

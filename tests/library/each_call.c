@@ -284,7 +284,10 @@ static void try_shapes(void) {
     memset(&tile, 0, sizeof tile);
     tile.turn = 1;
     tile.shift[0] = 4;
+    memset(&out, 7, sizeof out);
+    before = out;
     EXPECT(tiling_corners(chair, &tile, &out) == TILING_OK && out.count == 8);
+    EXPECT(memcmp(&out.corners[8], &before.corners[8], 4 * sizeof *out.corners) == 0);
     for (int i = 0; i < 8; i++) EXPECT(corner_is(&out, i, 4 - chair_corners[i][1], chair_corners[i][0]));
     before = out;
     tile.turn = 4;
@@ -391,6 +394,31 @@ static void try_at(void) {
     EXPECT(memcmp(&tile, &before, sizeof tile) == 0);
 }
 
+/* a frame of 64 levels, whose base stands in the corner of each: all that is filled has 64 digits */
+static void try_deep(void) {
+    tiling_machine chair = opened("chair");
+    static tiling_whole_tile wholes[32];
+    static tiling_tile tiles[32];
+    static tiling_address addrs[32];
+    static tiling_vertex_star star;
+    tiling_frame frame;
+    tiling_window window = {{3, 3, 0, 0}, 1, 1};
+    tiling_point point = {{3, 3, 0, 0}};
+    size_t count = 0;
+    uint8_t edge = 0;
+    memset(&frame, 0, sizeof frame);
+    frame.base.depth = 64;
+    EXPECT(tiling_cover(chair, &frame, &window, tiles, 32, addrs, 32, &count) == TILING_OK && count > 1);
+    for (size_t i = 0; i < count; i++) EXPECT(addrs[i].depth == 64);
+    EXPECT(tiling_glue(chair, &frame, &window, wholes, 32, &count) == TILING_OK && count > 1);
+    for (size_t i = 0; i < count; i++) EXPECT(wholes[i].addrs[0].depth == 64);
+    EXPECT(tiling_at(chair, &frame, &point, tiles, addrs) == TILING_OK && addrs[0].depth == 64);
+    EXPECT(tiling_walk(chair, &frame, 0, &edge, 1, tiles, 2, addrs, 2) == TILING_OK);
+    EXPECT(addrs[0].depth == 64 && addrs[1].depth == 64);
+    EXPECT(tiling_star(chair, &frame, 0, &star) == TILING_OK && star.count > 1);
+    for (int i = 0; i < star.count; i++) EXPECT(star.addrs[i].depth == 64);
+}
+
 /* a part of a whole tile: its address, kind, turn and shift */
 static int is_part(const tiling_whole_tile *whole, int part, const char *text, int kind, int turn, int64_t a,
                    int64_t b, int64_t c, int64_t d) {
@@ -409,7 +437,10 @@ static void try_glue(void) {
     EXPECT(tiling_glue(chair, &frame, &window, wholes, 8, &count) == TILING_OK && count == 2);
     EXPECT(wholes[0].parts == 1 && is_part(&wholes[0], 0, "0:1/0,3/0", 0, 0, -1, -1, 0, 0));
     EXPECT(wholes[1].parts == 1 && is_part(&wholes[1], 0, "0:3/0,1/0", 0, 0, 0, 0, 0, 0));
-    EXPECT(wholes[1].tiles[1].kind == 0 && wholes[1].addrs[1].depth == 0 && wholes[2].parts == 7);
+    static const tiling_tile no_tile;
+    static const tiling_address no_address;
+    EXPECT(memcmp(&wholes[1].tiles[1], &no_tile, sizeof no_tile) == 0);
+    EXPECT(memcmp(&wholes[1].addrs[1], &no_address, sizeof no_address) == 0 && wholes[2].parts == 7);
     EXPECT(tiling_glue(ab, &frame, &window, wholes, 1, &count) == TILING_OK && count == 5);
     EXPECT(wholes[0].parts == 2 && is_part(&wholes[0], 0, "1:4/0,0/0,4/2", 1, 2, 0, -1, 0, 0));
     EXPECT(is_part(&wholes[0], 1, "2:1/2,5/0,4/2", 2, 2, 0, -1, 0, 0) && wholes[2].parts == 7);
@@ -520,7 +551,9 @@ static void try_arrays(void) {
     EXPECT(tiling_neighbour_all(chair, addrs, 4, edges, 4, crossings, 4) == TILING_OK);
     EXPECT(has_text(&addrs[0], "0:1/0") && crossings[0].status == TILING_OK && crossings[0].back == 3);
     EXPECT(crossings[1].status == TILING_OUTSIDE && crossings[1].back == 4 && crossings[1].part == 0);
-    EXPECT(crossings[2].status == TILING_NO_EDGE && crossings[3].status == TILING_BAD_ADDRESS);
+    EXPECT(crossings[0].part == 0);
+    EXPECT(crossings[2].status == TILING_NO_EDGE && crossings[2].back == 0 && crossings[2].part == 0);
+    EXPECT(crossings[3].status == TILING_BAD_ADDRESS && crossings[3].back == 0 && crossings[3].part == 0);
     EXPECT(memcmp(&addrs[1], &before[1], 3 * sizeof *addrs) == 0);
 }
 
@@ -558,6 +591,9 @@ static void try_verify(void) {
     tiles[1].kind = 0, tiles[2] = tiles[1];
     addrs[2] = addrs[1];
     EXPECT(VERIFY(3) == TILING_BAD_LISTING && fault == TILING_DOUBLE && index == 2);
+    tiles[0].kind = 1;
+    EXPECT(VERIFY(3) == TILING_BAD_LISTING && fault == TILING_NO_TILE && index == 0);
+    tiles[0].kind = 0;
     addrs[2] = address(chair, "0:0/0");
     EXPECT(VERIFY(3) == TILING_BAD_LISTING && fault == TILING_STRAY && index == 2);
     fault = 99, index = 77;
@@ -634,6 +670,7 @@ int main(int many, char **words) {
     try_pair();
     try_locate();
     try_at();
+    try_deep();
     try_walk();
     try_star();
     try_arrays();

@@ -33,7 +33,7 @@ _tiling_options() {
     case $1 in
     board) echo "--tiles --half --halves --to $frame" ;;
     poster) echo "--size --tile --by --colours --line --joined --cut --star --halves --to $frame" ;;
-    explore) echo '--port --help' ;;
+    explore) echo '--at --seed --addr --print --help' ;;
     atlas) echo "$frame" ;;
     esac
 }

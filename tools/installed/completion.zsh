@@ -11,7 +11,7 @@ _tiling() {
     local frame='--at --seed --addr --out --help'
     options=(board "--tiles --half --halves --to $frame"
         poster "--size --tile --by --colours --line --joined --cut --star --halves --to $frame"
-        explore '--port --help' atlas $frame)
+        explore '--at --seed --addr --print --help' atlas $frame)
     local -a names=(
         'place:where a tile lies' 'neighbour:the tile across an edge' 'walk:the tiles along a path of edges'
         'draw:the tiles of a window' 'check:whether a rule is accepted' 'calc:a script of questions'

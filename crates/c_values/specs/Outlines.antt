@@ -1,5 +1,5 @@
 -- What the plain corners of C stand for.
-use Rattle.std.specs.Prelude.{List, map, take}
+use Rattle.std.specs.Prelude.{◌≡◌, List, map, take, drop}
 use Rattle.cyclo_points.specs.declared.point.Point.{Point}
 use Rattle.c_values.specs.declared.plain_outline.PlainOutline.{PlainOutline}
 use Rattle.c_values.specs.declared.plain_point.PlainPoint.{PlainPoint}
@@ -11,3 +11,8 @@ point_of p = record { c = p.c }
 -- the corners: the first `count` points
 abbrev pub corners_in : PlainOutline → List Point
 corners_in p = map point_of (take p.count p.corners)
+
+-- The outline has become that of these points. The entries after them are unchanged.
+pub record HoldsOutline (points : List Point) (old new : PlainOutline) : Type 0 where
+  pub corners : corners_in new ≡ points
+  pub behind : drop new.count new.corners ≡ drop new.count old.corners

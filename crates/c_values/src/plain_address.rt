@@ -3,7 +3,7 @@ ghost use Rattle.std.specs.Prelude.{◌≡◌, ◌↔◌, ◌<◌, ◌≤◌, ta
 ghost use Rattle.theory_addresses.specs.Address.{Fits};
 ghost use Rattle.rule_model.specs.Tiling.{tiling_of, children};
 ghost use Rattle.tile_shape.specs.Views.{address_of};
-ghost use Rattle.c_values.specs.Addresses.{address_in, NamesTile};
+ghost use Rattle.c_values.specs.Addresses.{address_in, blank_address, NamesTile, ShowsAddress};
 
 use tile_place::machine::Machine;
 use tile_shape::address::Address;
@@ -20,7 +20,9 @@ pub struct PlainAddress {
 
 impl PlainAddress {
     /// Makes an address with all numbers 0.
-    pub fn blank() -> PlainAddress {
+    pub fn blank() -> PlainAddress
+        ensures { result ≡ blank_address }
+    {
         PlainAddress {
             kind: 0,
             depth: 0,
@@ -75,8 +77,7 @@ impl PlainAddress {
 
     /// Replaces these numbers by those of an address.
     pub fn write(&mut self, addr: &Address)
-        ensures seen { address_in self.new ≡ address_of addr.now }
-        ensures no_deeper { self.new.depth ≤ 64 }
+        ensures { ShowsAddress self.new (address_of addr.now) }
     {
         self.kind = addr.kind;
         self.depth = addr.depth();

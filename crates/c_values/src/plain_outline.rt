@@ -1,6 +1,6 @@
 //! Corners as plain numbers.
 ghost use Rattle.std.specs.Prelude.{◌≡◌, ◌≤◌, length};
-ghost use Rattle.c_values.specs.Outlines.{corners_in};
+ghost use Rattle.c_values.specs.Outlines.{HoldsOutline};
 
 use crate::plain_point::PlainPoint;
 use cyclo_points::point::Point;
@@ -18,7 +18,7 @@ impl PlainOutline {
     /// Replaces the corners by these points. There is room for 12.
     pub fn write(&mut self, points: &[Point])
         requires at_most_12 { length points.now ≤ 12 }
-        ensures seen { corners_in self.new ≡ points.now }
+        ensures { HoldsOutline points.now self.old self.new }
     {
         self.count = points.len() as u8;
         for i in 0..points.len() {

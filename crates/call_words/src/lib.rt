@@ -11,8 +11,6 @@ pub mod path_word;
 pub mod request;
 mod request_by;
 pub mod rule_choice;
-#[cfg(test)]
-mod trials;
 mod values;
 pub mod window_words;
 mod words;

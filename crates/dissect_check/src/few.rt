@@ -4,7 +4,7 @@ ghost use Rattle.std.specs.Prelude.{◌≡◌};
 ghost use Rattle.dissect_check.specs.Few.{one_more};
 
 /// No member of a list, the one member, or more than one.
-#[derive(Clone, Copy, Debug)]
+#[derive(Clone, Copy)]
 pub(crate) enum Few<T> {
     None,
     One(T),

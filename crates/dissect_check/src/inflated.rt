@@ -4,7 +4,7 @@ use crate::placed_edge::PlacedEdge;
 
 /// The inflated prototile of a kind: its edges, the edges of its children in order of child and edge,
 /// and where each of these lies.
-#[derive(Debug, Drop)]
+#[derive(Drop)]
 pub(crate) struct Inflated {
     pub wholes: Vec<Line>,
     pub edges: Vec<PlacedEdge>,

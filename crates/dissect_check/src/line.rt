@@ -1,7 +1,7 @@
 use cyclo_points::point::Point;
 
 /// A directed edge, from one point to another.
-#[derive(Clone, Copy, Debug)]
+#[derive(Clone, Copy)]
 pub(crate) struct Line {
     pub from: Point,
     pub to: Point,

@@ -3,7 +3,7 @@ use edge_tables::child_edge::ChildEdge;
 
 /// An edge of a child in its parent's inflated prototile: the child's number, the edge's, its type,
 /// and where it lies.
-#[derive(Clone, Copy, Debug)]
+#[derive(Clone, Copy)]
 pub(crate) struct PlacedEdge {
     pub child: u8,
     pub edge: u8,

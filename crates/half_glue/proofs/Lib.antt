@@ -2,6 +2,7 @@ mod Keyed
 mod Chosen
 mod GlueTypes
 mod Growing
+mod OwnRule
 mod Across
 mod Halves
 mod Settling

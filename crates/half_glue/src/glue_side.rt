@@ -11,14 +11,14 @@ use tile_place::machine::Machine;
 use tile_shape::no_memory::NoMemory;
 
 /// The other half: its kind, and the motion that takes its glue edge onto the reverse of this half's.
-#[derive(Clone, Copy, Debug)]
+#[derive(Clone, Copy)]
 pub(crate) struct OtherSide {
     pub(crate) kind: u8,
     pub(crate) glue: Motion,
 }
 
 /// The glue edge of a kind, and the half across it.
-#[derive(Clone, Copy, Debug)]
+#[derive(Clone, Copy)]
 pub(crate) struct GlueSide {
     pub(crate) edge: u8,
     pub(crate) other: Option<OtherSide>,

@@ -37,7 +37,7 @@ use tile_place::placed_tile::PlacedTile;
 use tile_shape::address::Address;
 
 /// How a given tile is glued.
-#[derive(Debug, Drop)]
+#[derive(Drop)]
 pub(crate) enum Found {
     /// The tile has no glue edge.
     Alone,

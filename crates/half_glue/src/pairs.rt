@@ -11,7 +11,7 @@ use window_cover::covered_tiles::CoveredTiles;
 
 /// A whole tile, by the numbers of its tiles. The given tiles come first in the numbering, then the tiles
 /// crossed to.
-#[derive(Clone, Copy, Debug)]
+#[derive(Clone, Copy)]
 pub(crate) struct Pair {
     /// The single tile, or the half with the lesser kind.
     pub(crate) first: u32,

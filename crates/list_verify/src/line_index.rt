@@ -21,7 +21,7 @@ const MODULUS: u64 = 2_305_843_009_213_693_951;
 const BASE: u128 = 2_305_843_009_213_693_952;
 
 /// The number of buckets, and the multiplier of a digest.
-#[derive(Clone, Copy, Debug)]
+#[derive(Clone, Copy)]
 pub(crate) struct Buckets {
     count: usize,
     multiplier: u64,

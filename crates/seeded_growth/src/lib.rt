@@ -9,5 +9,3 @@
 
 pub mod growth;
 pub mod laws;
-#[cfg(test)]
-mod tests;

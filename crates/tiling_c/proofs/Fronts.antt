@@ -1,8 +1,9 @@
 -- A loop that fills the front of an array with what stands for the values of a list.
-use Rattle.std.proofs.Common.{◌≡◌, ◌+◌, ◌<◌, ℕ, List, [], ◌∷◌, ◌++◌, length, map, take, drop, get_or, slice_set, Some, sym, ap, ◌∙◌, arith}
+use Rattle.std.proofs.Common.{◌≡◌, ◌+◌, ◌<◌, ℕ, List, [], ◌∷◌, ◌++◌, length, map, take, drop, get_or, slice_set, All, Some, sym, subst, ap, ◌∙◌, arith}
 use Rattle.std.specs.List.{slice_get}
 use Rattle.std.proofs.lemmas.Grind.{drop_more_same}
 use Rattle.std.proofs.lemmas.List.{take_more, take_more_set, map-append, drop-set-lt}
+use Rattle.std.proofs.lemmas.List.Elements.{All-push}
 use Rattle.std.proofs.lemmas.Option.{get_or_from_slice_get}
 
 -- one more value of the list
@@ -27,6 +28,12 @@ seen_more view shown all xs i a y in_all in_xs at same front =
     ap (map view) (take_more_set xs i y in_xs) ∙ map-append view (take i xs) (y ∷ [])
     ∙ ap (λ c. map view (take i xs) ++ c ∷ []) same ∙ ap (λ cs. cs ++ shown a ∷ []) front
     ∙ sym (shown_more shown all i a in_all at)
+
+-- and each of them has a property
+pub all_more : {B : Type 0} (Q : B → Type 0) (xs : List B) (i : ℕ) (y : B) → i < length xs → All Q (take i xs) → Q y
+    → All Q (take (i + 1) (slice_set xs i y))
+all_more Q xs i y in_xs before own =
+    subst (All Q) (sym (take_more_set xs i y in_xs)) (All-push Q (take i xs) y before own)
 
 -- what is behind it stays
 pub behind_more : {B : Type 0} (xs old : List B) (i : ℕ) (y : B) → drop i xs ≡ drop i old → drop (i + 1) (slice_set xs i y) ≡ drop (i + 1) old

@@ -17,16 +17,17 @@ use Rattle.plane_geom.specs.declared.window.Window.{Window}
 use Rattle.listing_text.specs.declared.listing_fault.ListingFault.{ListingFault}
 use Rattle.list_verify.specs.declared.list_fault.ListFault.{ListFault}
 use Rattle.list_verify.specs.declared.list_fault.ListFault.TheVariants.{TooLong, BadLine, Address, BadKind, NotOfFrame, Double, Missing, WrongPlace, Stray, DepthLimit, CoordLimit, NoMemory}
+use Rattle.list_verify.specs.Verdict.{HasCause}
 use Rattle.list_verify.specs.Listing.{IsRightFor, IsVerified, tiles_listed}
 use Rattle.listing_text.specs.Listing.{Entry, listing_in}
 use Rattle.listing_text.specs.Written.{entry_text, entries_text, CanBeListed}
 use Rattle.c_values.specs.declared.plain_address.PlainAddress.{PlainAddress}
 use Rattle.c_values.specs.declared.plain_tile.PlainTile.{PlainTile}
 use Rattle.tile_shape.specs.Views.{step_of}
-use Rattle.c_values.specs.Statuses.{ok, no_memory}
+use Rattle.c_values.specs.Statuses.{ok, no_memory, bad_listing}
 use Rattle.c_values.specs.Tiles.{motion_of}
 use Rattle.tiling_c.specs.Arrays.{tile_at, address_at}
-use Rattle.tiling_c.specs.Verifying.{entry_given, entries_given, listing_given, IsEntry, AreEntries, AreTilesOf, status_told}
+use Rattle.tiling_c.specs.Verifying.{entry_given, entries_given, listing_given, IsEntry, AreEntries, AreTilesOf, status_told, fault_of}
 
 none : {A : Type 0} (xs : List A) → take 0 xs ≡ []
 none [] = refl
@@ -171,3 +172,19 @@ no_room r why n status e is (inr none) = inr (is ∙ ap status_told (same why No
   where
     same : (x y : ListFault) → (let o : Result ℕ ListFault = Err x in o) ≡ Err y → x ≡ y
     same x y e = cc
+
+-- the listing is read, so its fault is none of the text's, and has a number from 2 on
+pub some_fault : (t : Tiling) (f g : FrameValue) (w : Window) (text : List ℕ) (entries : List Entry) → listing_in (children t) text ≡ Ok entries
+    → (why : ListFault) → HasCause t f g w text why → status_told why ≡ bad_listing → 2 ≤ fault_of why
+some_fault t f g w text entries read TooLong cause e = absurd (cc (sym read ∙ cause))
+some_fault t f g w text entries read (BadLine _ _) cause e = absurd (cc (sym read ∙ cause))
+some_fault t f g w text entries read (Address _ _) cause e = absurd (cc (sym read ∙ cause))
+some_fault t f g w text entries read (BadKind _) cause e = absurd (cc (sym read ∙ cause))
+some_fault t f g w text entries read (NotOfFrame _) cause e = omega arith
+some_fault t f g w text entries read (Double _) cause e = omega arith
+some_fault t f g w text entries read (Missing _) cause e = omega arith
+some_fault t f g w text entries read (WrongPlace _ _) cause e = omega arith
+some_fault t f g w text entries read (Stray _) cause e = omega arith
+some_fault t f g w text entries read (DepthLimit _ _) cause e = absurd (cc e)
+some_fault t f g w text entries read (CoordLimit _) cause e = absurd (cc e)
+some_fault t f g w text entries read NoMemory cause e = absurd (cc e)

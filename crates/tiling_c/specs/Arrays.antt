@@ -1,5 +1,7 @@
 -- Calls on arrays: what they return for each item.
-use Rattle.std.specs.Prelude.{◌≡◌, ◌↔◌, ◌⊎◌, ◌≤◌, ℕ, List, [], get_or, IsSome}
+use Rattle.std.specs.Prelude.{◌≡◌, ◌↔◌, ◌⊎◌, ◌≤◌, ◌<◌, ℕ, List, [], get_or, None, IsSome}
+use Rattle.cyclo_points.specs.Order.{points_of}
+use Rattle.cyclo_points.specs.Point.{IsOf}
 use Rattle.cyclo_points.specs.Motion.{motion_in}
 use Rattle.rule_model.specs.Tiling.{Tiling, IsPlaced}
 use Rattle.tile_place.specs.Crossed.{IsOnlyAcross, IsOutside, LiesAlongNone, edges_of}
@@ -26,6 +28,9 @@ address_at addrs i = get_or addrs i no_address
 pub record ShowsPlace (t : Tiling) (addr : PlainAddress) (tile : PlainTile) : Type 0 where
   pub placed : tile.status ≡ ok → IsPlaced t (address_in addr) (motion_in t.order (motion_of tile))
   pub plain : tile.status ≡ ok → tile ≡ tile_as addr.kind (motion_of tile) 0
+  pub turn_below : tile.status ≡ ok → tile.turn < (points_of t.order).order
+  pub in_order : tile.status ≡ ok → IsOf t.order (motion_of tile).shift
+  pub within : tile.status ≡ ok → first_refused t (address_in addr).digits ≡ None
   pub names_none : (tile.status ≡ bad_address) ↔ (¬ NamesTile t addr)
   pub too_far : tile.status ≡ coord_limit → IsSome (first_refused t (address_in addr).digits)
   pub refused : ¬ tile.status ≡ ok → tile ≡ refused_as tile.status
@@ -47,3 +52,9 @@ pub record ShowsCrossing (t : Tiling) (old : PlainAddress) (edge : ℕ) (new : P
   pub lacks_edge : (crossing.status ≡ no_edge) ↔ (NamesTile t old × (edges_of t old.kind ≤ edge))
   pub unchanged : ¬ crossing.status ≡ ok → new ≡ old
   pub statuses : (crossing.status ≡ ok) ⊎ (crossing.status ≡ bad_address) ⊎ (crossing.status ≡ outside) ⊎ (crossing.status ≡ no_edge)
+
+-- in an array: the same, with 0 for each number that the status leaves without a meaning
+pub record ShowsCrossingInArray (t : Tiling) (old : PlainAddress) (edge : ℕ) (new : PlainAddress) (crossing : PlainCrossing) : Type 0 where
+  pub crossed : ShowsCrossing t old edge new crossing
+  pub no_back : ¬ crossing.status ≡ ok → ¬ crossing.status ≡ outside → crossing.back ≡ 0
+  pub no_part : ¬ crossing.status ≡ outside → crossing.part ≡ 0

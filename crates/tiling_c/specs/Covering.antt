@@ -1,5 +1,5 @@
 -- The tiles of a window in a caller's arrays.
-use Rattle.std.specs.Prelude.{◌≡◌, ◌⊎◌, ℕ, List, length, map, min, take, drop}
+use Rattle.std.specs.Prelude.{◌≡◌, ◌⊎◌, ℕ, List, length, map, min, take, drop, All, ◌≤◌}
 use Rattle.theory_walks.specs.Frames.{FrameValue, GrowsTo}
 use Rattle.plane_geom.specs.declared.window.Window.{Window}
 use Rattle.rule_model.specs.Tiling.{Tiling}
@@ -28,6 +28,7 @@ pub record HoldsTiles (all : List PlacedTile) (old new : List PlainTile) : Type 
 -- the same holds for their addresses in another array
 pub record HoldsAddresses (all : List PlacedTile) (old new : List PlainAddress) : Type 0 where
   pub front : map address_in (take (held all (length old)) new) ≡ map address_shown (take (held all (length old)) all)
+  pub no_deeper : All (λ (p : PlainAddress). p.depth ≤ 64) (take (held all (length old)) new)
   pub behind : drop (held all (length old)) new ≡ drop (held all (length old)) old
 
 -- These are exactly the tiles of a frame, grown from `start`, that meet the window. Each comes exactly once, in order, and they cover the window. `count` is their

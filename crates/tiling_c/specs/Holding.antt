@@ -10,7 +10,7 @@ use Rattle.tile_place.specs.Searched.{placed_in}
 use Rattle.tile_shape.specs.Views.{address_of}
 use Rattle.c_values.specs.declared.plain_address.PlainAddress.{PlainAddress}
 use Rattle.c_values.specs.declared.plain_tile.PlainTile.{PlainTile}
-use Rattle.c_values.specs.Addresses.{address_in}
+use Rattle.c_values.specs.Addresses.{ShowsAddress}
 use Rattle.tiling_c.specs.Shown.{tile_shown}
 
 -- The frame has grown from `start` to the least depth at which it holds the point. Exactly one of its tiles there holds the point. These are its numbers and its
@@ -23,4 +23,4 @@ pub record ShowsHolder (t : Tiling) (start : FrameValue) (p : NumberOf t.order) 
   pub only : IsOnlyHolder t frame p (placed_in t.order tile)
   pub stands : Stands t frame tile
   pub its_numbers : numbers ≡ tile_shown tile
-  pub its_address : address_in addr ≡ address_of tile.addr
+  pub its_address : ShowsAddress addr (address_of tile.addr)

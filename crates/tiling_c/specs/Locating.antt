@@ -1,18 +1,17 @@
 -- The tile of a supertile that holds a point, as plain numbers.
 use Rattle.std.specs.Prelude.{◌≡◌, ◌↔◌, ◌≤◌, ℕ, None}
-use Rattle.theory_addresses.specs.Address.{depth as depth_of}
 use Rattle.cyclo_points.specs.Order.{NumberOf}
 use Rattle.cyclo_points.specs.Point.{point_in}
 use Rattle.cyclo_points.specs.Motion.{motion_in}
 use Rattle.rule_model.specs.Tiling.{Tiling, MotionOf}
 use Rattle.tile_place.specs.declared.placed_tile.PlacedTile.{PlacedTile}
-use Rattle.tile_place.specs.Located.{IsOnlyTileHolding, HasInside, first_refused_looked_at}
+use Rattle.tile_place.specs.Located.{IsOnlyTileHolding, IsOfSupertile, HasInside, first_refused_looked_at}
 use Rattle.tile_place.specs.Searched.{placed_in}
 use Rattle.tile_shape.specs.Views.{address_of}
 use Rattle.c_values.specs.declared.plain_address.PlainAddress.{PlainAddress}
 use Rattle.c_values.specs.declared.plain_point.PlainPoint.{PlainPoint}
 use Rattle.c_values.specs.declared.plain_tile.PlainTile.{PlainTile}
-use Rattle.c_values.specs.Addresses.{address_in}
+use Rattle.c_values.specs.Addresses.{ShowsAddress}
 use Rattle.c_values.specs.Statuses.{ok, outside}
 use Rattle.c_values.specs.Tiles.{motion_of}
 use Rattle.c_values.specs.Windows.{point_given, IsNearby}
@@ -36,10 +35,9 @@ pub record AsksToLocate (t : Tiling) (top : PlainTile) (depth : ℕ) (p : PlainP
 pub record ShowsLocated (t : Tiling) (kind depth : ℕ) (m : MotionOf t) (p : NumberOf t.order) (numbers : PlainTile) (addr : PlainAddress) : Type 0 where
   pub tile : PlacedTile
   pub only : IsOnlyTileHolding t kind depth m p (placed_in t.order tile)
-  pub its_kind : tile.kind ≡ tile.addr.kind
-  pub its_depth : depth_of (address_of tile.addr) ≡ depth
+  pub of_supertile : IsOfSupertile t depth tile
   pub its_numbers : numbers ≡ tile_shown tile
-  pub its_address : address_in addr ≡ address_of tile.addr
+  pub its_address : ShowsAddress addr (address_of tile.addr)
 
 -- Unless a value that is computed on the way is refused, the status is `ok` exactly if the supertile holds the point, and `outside` exactly if it doesn't. Both
 -- statuses come only if no such value is refused.

@@ -1,5 +1,6 @@
 -- The tiles around a vertex, as plain numbers.
-use Rattle.std.specs.Prelude.{◌≡◌, ℕ, List, length, map, take, All}
+use Rattle.std.specs.Prelude.{◌≡◌, ◌≤◌, ℕ, List, length, map, take, drop, All}
+use Rattle.c_values.specs.declared.plain_address.PlainAddress.{PlainAddress}
 use Rattle.theory_addresses.specs.Address as theory
 use Rattle.theory_walks.specs.Frames.{FrameValue, GrowsTo}
 use Rattle.lazy_walk.specs.Standing.{Stands}
@@ -24,16 +25,19 @@ corner_shown c = tile_as c.tile.kind c.tile.motion c.vertex
 abbrev pub corner_address : Corner → theory.Address
 corner_address c = address_of c.tile.addr
 
--- the numbers are those of these tiles, in their order
-pub record HoldsCorners (corners : List Corner) (star : PlainVertexStar) : Type 0 where
-  pub count : star.count ≡ length corners
-  pub tiles : take star.count star.tiles ≡ map corner_shown corners
-  pub addresses : map address_in (take star.count star.addrs) ≡ map corner_address corners
+-- The numbers are those of these tiles, in their order. The entries after them are unchanged.
+pub record HoldsCorners (corners : List Corner) (old new : PlainVertexStar) : Type 0 where
+  pub count : new.count ≡ length corners
+  pub tiles : take new.count new.tiles ≡ map corner_shown corners
+  pub addresses : map address_in (take new.count new.addrs) ≡ map corner_address corners
+  pub no_deeper : All (λ (p : PlainAddress). p.depth ≤ 64) (take new.count new.addrs)
+  pub tiles_behind : drop new.count new.tiles ≡ drop new.count old.tiles
+  pub addresses_behind : drop new.count new.addrs ≡ drop new.count old.addrs
 
 -- The frame has grown from `start` to the least depth at which the vertex of its base lies on no edge of its
 -- polygon. These are exactly its tiles that have the vertex. Each comes once, with its motion in the base's
 -- frame and with its own number for the vertex. They are in turning order from the base.
-pub record ShowsStar (t : Tiling) (start : FrameValue) (vertex : ℕ) (star : PlainVertexStar) : Type 0 where
+pub record ShowsStar (t : Tiling) (start : FrameValue) (vertex : ℕ) (old new : PlainVertexStar) : Type 0 where
   pub frame : FrameValue
   pub grown : GrowsTo t start frame
   pub least : IsLeastEnough t start vertex (length frame.digits)
@@ -41,7 +45,7 @@ pub record ShowsStar (t : Tiling) (start : FrameValue) (vertex : ℕ) (star : Pl
   pub stand : All (λ (c : Corner). Stands t frame c.tile) corners
   pub round : AreRound t frame vertex (map (corner_in t.order) corners)
   pub in_turn : AreInTurn t frame vertex (map (corner_in t.order) corners)
-  pub held : HoldsCorners corners star
+  pub held : HoldsCorners corners old new
 
 -- the status of each fault
 abbrev pub code_of_star : StarFault → ℕ

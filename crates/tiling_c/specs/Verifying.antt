@@ -95,14 +95,17 @@ status_told (CoordLimit value) = coord_limit
 status_told NoMemory = no_memory
 status_told _ = bad_listing
 
--- The listing of the arrays is not right, for a cause in the frame as it had grown by then. This is the status of the fault, its number and its index.
+-- All entries are tiles, and their listing is not right, for a cause in the frame as it had grown by then. This is
+-- the status of the fault, its number and its index.
 pub record IsFaultOfListing (t : Tiling) (f : FrameValue) (w : Window) (tiles : List PlainTile) (addrs : List PlainAddress) (status fault index : ℕ) : Type 0 where
+  pub entries : AreEntries t tiles addrs
   pub why : ListFault
   pub frame : FrameValue
   pub grown : GrowsTo t f frame
   pub cause : HasCause t f frame w (listing_given tiles addrs) why
   pub its_status : status ≡ status_told why
   pub its_fault : status ≡ bad_listing → fault ≡ fault_of why
+  pub some_fault : status ≡ bad_listing → 2 ≤ fault
   pub its_index : status ≡ bad_listing → index ≡ line_told why - 1
 
 -- the first entry that is no tile is told

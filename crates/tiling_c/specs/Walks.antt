@@ -11,7 +11,7 @@ use Rattle.tile_place.specs.Crossed.{IsOnlyAcross}
 use Rattle.tile_shape.specs.Views.{address_of}
 use Rattle.c_values.specs.declared.plain_address.PlainAddress.{PlainAddress}
 use Rattle.c_values.specs.declared.plain_tile.PlainTile.{PlainTile}
-use Rattle.c_values.specs.Addresses.{address_in}
+use Rattle.c_values.specs.Addresses.{address_in, ShowsAddress}
 use Rattle.c_values.specs.Statuses.{no_edge, depth_limit}
 use Rattle.c_values.specs.Tiles.{tile_as}
 use Rattle.tiling_c.specs.Arrays.{tile_at, address_at}
@@ -25,7 +25,7 @@ pub record ShowsStanding (t : Tiling) (f : FrameValue) (number : ℕ) (numbers :
   pub tile : PlacedTile
   pub stands : Stands t f tile
   pub its_numbers : numbers ≡ tile_as tile.kind tile.motion number
-  pub its_address : address_in addr ≡ address_of tile.addr
+  pub its_address : ShowsAddress addr (address_of tile.addr)
 
 -- tile i + 1 is the only one across edge i of the path from tile i; its edge there is `back`, and it is in its place, with that number
 pub record IsReached (t : Tiling) (f : FrameValue) (path : List ℕ) (tiles : List PlainTile) (addrs : List PlainAddress) (i : ℕ) : Type 0 where

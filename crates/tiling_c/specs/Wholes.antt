@@ -1,5 +1,6 @@
 -- The whole tiles of a window in a caller's array.
-use Rattle.std.specs.Prelude.{◌≡◌, ◌⊎◌, ◌<◌, ℕ, List, [], length, min, drop, get_or, slice_get, IfSome}
+use Rattle.std.specs.Prelude.{◌≡◌, ◌⊎◌, ◌<◌, ℕ, List, [], length, min, drop, get_or, slice_get, None, IfSome}
+use Rattle.c_values.specs.Tiles.{refused_as}
 use Rattle.half_glue.specs.declared.glue_fault.GlueFault.{GlueFault}
 use Rattle.half_glue.specs.declared.glue_fault.GlueFault.TheVariants.{DepthLimit, CoordLimit, NoMemory}
 use Rattle.half_glue.specs.declared.whole_tile.WholeTile.{WholeTile}
@@ -19,7 +20,7 @@ use Rattle.window_cover.specs.Windows.{box_of}
 use Rattle.c_values.specs.declared.plain_address.PlainAddress.{PlainAddress}
 use Rattle.c_values.specs.declared.plain_tile.PlainTile.{PlainTile}
 use Rattle.c_values.specs.declared.plain_whole_tile.PlainWholeTile.{PlainWholeTile}
-use Rattle.c_values.specs.Addresses.{address_in}
+use Rattle.c_values.specs.Addresses.{ShowsAddress, blank_address}
 use Rattle.c_values.specs.Statuses.{depth_limit, coord_limit, no_memory}
 use Rattle.tiling_c.specs.Arrays.{tile_at, address_at}
 use Rattle.tiling_c.specs.Covering.{EndsCover}
@@ -28,12 +29,13 @@ use Rattle.tiling_c.specs.Shown.{tile_shown, address_shown}
 -- the numbers are those of this tile, and of its address
 pub record ShowsTile (x : PlacedTile) (tile : PlainTile) (addr : PlainAddress) : Type 0 where
   pub its_numbers : tile ≡ tile_shown x
-  pub its_address : address_in addr ≡ address_shown x
+  pub its_address : ShowsAddress addr (address_shown x)
 
 -- the numbers are those of the parts of a whole tile, and there are as many as it has
 pub record ShowsWhole (whole : WholeTile) (p : PlainWholeTile) : Type 0 where
   pub first : ShowsTile whole.first (tile_at p.tiles 0) (address_at p.addrs 0)
   pub second : IfSome whole.second (λ x. ShowsTile x (tile_at p.tiles 1) (address_at p.addrs 1))
+  pub no_second : whole.second ≡ None → (tile_at p.tiles 1 ≡ refused_as 0) × (address_at p.addrs 1 ≡ blank_address)
   pub count : p.parts ≡ length (parts_of whole)
 
 -- what stands for no whole tile

@@ -4,7 +4,7 @@ ghost use Rattle.rule_model.specs.Tiling.{tiling_of};
 ghost use Rattle.tile_place.specs.Crossed.{IsOnlyAcross, IsOutside, LiesAlongNone, edges_of};
 ghost use Rattle.c_values.specs.Addresses.{address_in, NamesTile};
 ghost use Rattle.c_values.specs.Statuses.{ok, bad_address, outside, no_edge};
-ghost use Rattle.tiling_c.specs.Arrays.{ShowsCrossing};
+ghost use Rattle.tiling_c.specs.Arrays.{ShowsCrossing, ShowsCrossingInArray};
 
 use c_values::plain_address::PlainAddress;
 use c_values::plain_crossing::PlainCrossing;
@@ -32,10 +32,10 @@ fn cross<L: Ledger>(
     blank: Blank,
 ) -> PlainCrossing
     requires blank { (blank.name ≡ L.name) × (blank.parts ≡ L.parts) × (0 < blank.parts) }
-    ensures across { result.status ≡ ok → IsOnlyAcross (tiling_of machine.now) (address_in addr.old) edge
-        (address_in addr.new) result.back }
-    ensures leads_back { result.status ≡ ok → IsOnlyAcross (tiling_of machine.now) (address_in addr.new)
-        result.back (address_in addr.old) edge }
+    ensures across { result.status ≡ ok
+        → (IsOnlyAcross (tiling_of machine.now) (address_in addr.old) edge (address_in addr.new)
+        result.back) × (IsOnlyAcross (tiling_of machine.now) (address_in addr.new) result.back
+        (address_in addr.old) edge) }
     ensures names { result.status ≡ ok → NamesTile (tiling_of machine.now) addr.new }
     ensures inside { result.status ≡ ok → LiesAlongNone (tiling_of machine.now) (address_in addr.old) edge }
     ensures outside { result.status ≡ outside → IsOutside (tiling_of machine.now) (address_in addr.old) edge
@@ -43,6 +43,8 @@ fn cross<L: Ledger>(
     ensures bad_address { (result.status ≡ bad_address) ↔ (¬ NamesTile (tiling_of machine.now) addr.old) }
     ensures no_edge { (result.status ≡ no_edge) ↔ (NamesTile (tiling_of machine.now) addr.old
         × (edges_of (tiling_of machine.now) addr.old.kind ≤ edge)) }
+    ensures zeros { (¬ result.status ≡ ok → ¬ result.status ≡ outside → result.back ≡ 0)
+        × (¬ result.status ≡ outside → result.part ≡ 0) }
     ensures unchanged { ¬ result.status ≡ ok → addr.new ≡ addr.old }
     ensures statuses { (result.status ≡ ok) ⊎ (result.status ≡ bad_address) ⊎ (result.status ≡ outside)
         ⊎ (result.status ≡ no_edge) }
@@ -68,7 +70,7 @@ fn cross<L: Ledger>(
 /// Crosses an edge in place, and returns how.
 #[inline(always)]
 pub fn cross_edge(machine: &Machine, addr: &mut PlainAddress, edge: u8) -> PlainCrossing
-    ensures { ShowsCrossing (tiling_of machine.now) addr.old edge addr.new result }
+    ensures { ShowsCrossingInArray (tiling_of machine.now) addr.old edge addr.new result }
 {
     cross::<Brand>(machine, addr, edge, Blank::new(1))
 }

@@ -26,7 +26,7 @@ use tile_place::machine::Machine;
 /// Puts corners, of which there is room for 64.
 fn put_corners(corners: &[Corner], out: &mut PlainVertexStar)
     requires at_most_64 { length corners.now ≤ 64 }
-    ensures { HoldsCorners corners.now out.new }
+    ensures { HoldsCorners corners.now out.old out.new }
 {
     out.count = corners.len() as u8;
     for i in 0..corners.len() {
@@ -55,7 +55,7 @@ fn put_star<L: Ledger>(
     steps: &mut Steps<L>,
 ) -> u8
     requires vertex { HasVertex (tiling_of machine.now) frame.old vertex }
-    ensures star { result ≡ ok → ShowsStar (tiling_of machine.now) frame.old vertex out.new }
+    ensures star { result ≡ ok → ShowsStar (tiling_of machine.now) frame.old vertex out.old out.new }
     ensures within { result ≡ ok → IsWithinLimits (tiling_of machine.now) frame.old vertex }
     ensures answered { IsWithinLimits (tiling_of machine.now) frame.old vertex → result ≡ ok }
     ensures ended { ¬ result ≡ ok → EndsTurn (tiling_of machine.now) frame.old vertex result }
@@ -80,7 +80,8 @@ pub fn turn<L: Ledger>(
     blank: Blank,
 ) -> u8
     requires blank { (blank.name ≡ L.name) × (blank.parts ≡ L.parts) × (0 < blank.parts) }
-    ensures star { result ≡ ok → ShowsStar (tiling_of machine.now) (frame_in frame.now) vertex out.new }
+    ensures star { result ≡ ok
+        → ShowsStar (tiling_of machine.now) (frame_in frame.now) vertex out.old out.new }
     ensures within { result ≡ ok → IsWithinLimits (tiling_of machine.now) (frame_in frame.now) vertex }
     ensures answered { NamesTile (tiling_of machine.now) frame.now.base
         → vertex < edges_of (tiling_of machine.now) frame.now.base.kind
@@ -114,7 +115,7 @@ pub extern "C" fn tiling_star(
 ) -> u8
     // In the plane: exactly the tiles of the frame that have the vertex, each exactly once, in turning
     // order.
-    ensures star { result ≡ ok → ShowsStar (tiling_of t.rule) (frame_in frame.now) vertex out.new }
+    ensures star { result ≡ ok → ShowsStar (tiling_of t.rule) (frame_in frame.now) vertex out.old out.new }
 
     // The call succeeds exactly within the limits, and each refusal comes only for its cause.
     ensures within { result ≡ ok → IsWithinLimits (tiling_of t.rule) (frame_in frame.now) vertex }

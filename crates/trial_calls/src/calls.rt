@@ -1,39 +1,43 @@
-//! A call of the top call by a line of words, compared with what is wanted.
-use crate::told::{SOUND, told};
-use layer_api::layer::Layer;
-use layer_list::list_layer::ListLayer;
+//! Calls of the top call by a line of words, compared with what is wanted.
+use crate::told::{Failing, SOUND, told};
+use crate::wrong::Wrong;
 use std::alloc::{AllocError, Global};
-use std::process::Abort;
-use std::test::Fail;
 
-// The words of a line, parted by blanks; an empty line has none.
-pub fn words_of(alloc: Global, line: &str) -> Result<Vec<String>, AllocError> {
-    let mut words = Vec::new(alloc);
-    if !line.is_empty() {
-        for word in line.split(' ') {
-            words.push(word.to_string(alloc)?)?;
-        }
-    }
-    Ok(words)
-}
+/// A call: its words, what its source holds, the exit code that is wanted, and the lines that are printed and
+/// noted, without the last newline. In a text `«PIECE×TIMES»` is a piece repeated.
+pub type Row = (&'static str, &'static str, u8, &'static str, &'static str);
 
-// The text with a newline, or nothing where it is empty.
-pub fn line_of(alloc: Global, text: &str) -> Result<String, AllocError> {
-    if text.is_empty() {
-        Ok(String::new(alloc))
-    } else {
-        format!(in alloc; "{text}\n")
-    }
-}
-
-// Two chairs, as a list.
+/// Two chairs, as a list.
 pub const CHAIRS_LIST: &str = "0 0 0,0,0,0 0:3/0\n0 1 3,1,0,0 0:1/0\n";
 
-// A layer that lists tiles, alone.
-pub fn one_list(alloc: Global) -> Result<Vec<Box<dyn Layer>>, Fail> {
-    let mut layers: Vec<Box<dyn Layer>> = Vec::new(alloc);
-    layers.push(Box::new(alloc, ListLayer::new(alloc))?)?;
-    Ok(layers)
+/// Puts a piece as often as it is to be repeated.
+fn put_repeated(text: &mut String, repeated: &str) -> Result<(), AllocError> {
+    let (piece, times) = repeated.split_once('×').unwrap_or((repeated, "1"));
+    let times: u32 = times.parse().unwrap_or(0);
+    for _ in 0..times {
+        text.push_str(piece)?;
+    }
+    Ok(())
+}
+
+/// Returns a text with its pieces repeated.
+pub fn spelled(alloc: Global, text: &str) -> Result<String, AllocError> {
+    let mut all = String::new(alloc);
+    for part in text.split('«') {
+        let (repeated, rest) = part.split_once('»').unwrap_or(("", part));
+        put_repeated(&mut all, repeated)?;
+        all.push_str(rest)?;
+    }
+    Ok(all)
+}
+
+/// The text with a newline, or nothing where it is empty.
+fn line_of(alloc: Global, text: &str) -> Result<String, AllocError> {
+    let mut line = spelled(alloc, text)?;
+    if !text.is_empty() {
+        line.push('\n')?;
+    }
+    Ok(line)
 }
 
 /// Returns the expected outcome of a call: its exit code, and the lines that it prints and notes. Both lines
@@ -44,17 +48,32 @@ pub fn wanted(alloc: Global, code: u8, text: &str, note: &str) -> Result<String,
     format!(in alloc; "{code} {text}|{note}")
 }
 
-/// Runs a line of words, and compares what comes of it: the exit code, and the lines printed and noted.
-pub fn check_line<R: Abort + AllocGlobal>(
-    rt: &R,
-    line: &str,
-    code: u8,
-    text: &str,
-    note: &str,
-) -> Result<(), Fail> {
-    let alloc = rt.alloc();
-    let ended = told(alloc, line, "", &SOUND)?;
-    let wanted = wanted(alloc, code, text, note)?;
-    assert_eq!(rt; ended.as_str(), wanted.as_str(), "{line}");
-    Ok(())
+/// Returns true if a call comes to this: the exit code, and after it what is printed and noted.
+pub fn comes_to(alloc: Global, line: &str, source: &str, failing: &Failing, wanted: &str) -> bool {
+    match told(alloc, line, source, failing) {
+        Ok(ended) => ended.as_str() == wanted,
+        Err(_) => false,
+    }
+}
+
+/// Returns true if a call comes to what its row says.
+fn is_right(alloc: Global, row: &Row) -> Result<bool, AllocError> {
+    let (words, source, code, text, note) = row;
+    let line = spelled(alloc, words)?;
+    let source = spelled(alloc, source)?;
+    let wanted = wanted(alloc, *code, text, note)?;
+    Ok(comes_to(
+        alloc,
+        line.as_str(),
+        source.as_str(),
+        &SOUND,
+        wanted.as_str(),
+    ))
+}
+
+/// Notes the first row that comes out otherwise.
+pub fn note_rows(alloc: Global, wrong: &mut Wrong, name: &'static str, rows: &[Row]) {
+    for (number, row) in rows.iter().enumerate() {
+        wrong.note(name, number, is_right(alloc, row).unwrap_or(false));
+    }
 }

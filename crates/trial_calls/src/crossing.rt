@@ -1,13 +1,14 @@
 //! Across an edge and back, from 100 addresses of each built-in rule, and from every edge of each tile.
 ghost use Rattle.std.specs.Prelude.{◌<◌};
 
-use crate::calls::check_line;
+use crate::calls::comes_to;
 use crate::told::{SOUND, told};
+use crate::wrong::Wrong;
 use builtin_rules::builtin::builtin;
 use builtin_rules::name::Name;
-use std::process::Abort;
-use std::test::Fail;
+use std::alloc::{AllocError, Global};
 use tile_shape::address::Address;
+use tile_shape::no_memory::NoMemory;
 use tile_shape::step::Step;
 use tile_shape::uses::Uses;
 
@@ -59,74 +60,78 @@ fn grown(uses: &Uses, draws: &mut Draws) -> Address {
     addr
 }
 
-/// Crosses an edge of a tile, and then crosses back. Returns whether there is a tile across, or None if the
-/// tile has no such edge.
-fn cross<R: Abort + AllocGlobal>(
-    rt: &R,
-    name: &str,
-    addr: &Address,
-    edge: u16,
-) -> Result<Option<bool>, Fail> {
-    let alloc = rt.alloc();
-    let line = format!(in alloc; "neighbour rule={name} addr={addr} edge={edge}")?;
-    let ended = told(alloc, line.as_str(), "", &SOUND)?;
-    let (code, rest) = ended.as_str().split_once(' ').unwrap_or(("", ""));
-    if code == "0" {
-        let (text, _) = rest.split_once('|').unwrap_or(("", ""));
-        check_back(rt, name, text, addr, edge)?;
-        return Ok(Some(true));
-    }
-    if code == "8" {
-        return Ok(Some(false));
-    }
-    assert_eq!(rt; code, "12", "{line}");
-    Ok(None)
+/// What comes of crossing an edge: a tile from which the way back leads home, the boundary, no such edge, or
+/// something else.
+#[derive(Clone, Copy, PartialEq, Eq)]
+enum Crossed {
+    There,
+    Outside,
+    NoEdge,
+    Otherwise,
 }
 
-/// Goes back by what was printed.
-fn check_back<R: Abort + AllocGlobal>(
-    rt: &R,
+/// Returns true if the way back, by what was printed, leads home.
+fn leads_back(
+    alloc: Global,
     name: &str,
     text: &str,
     addr: &Address,
     edge: u16,
-) -> Result<(), Fail> {
-    let alloc = rt.alloc();
-    let (across, back) = text.trim_end().split_once(' ').unwrap_or(("", ""));
+) -> Result<bool, AllocError> {
+    let (across, back) = text.split_once(' ').unwrap_or(("", ""));
     let line = format!(in alloc; "neighbour rule={name} addr={across} edge={back}")?;
-    let home = format!(in alloc; "{addr} {edge}")?;
-    check_line(rt, line.as_str(), 0, home.as_str(), "")
+    let home = format!(in alloc; "0 {addr} {edge}\n|")?;
+    Ok(comes_to(alloc, line.as_str(), "", &SOUND, home.as_str()))
 }
 
-/// Goes across each edge of a tile and back; whether there is a tile across one.
-fn cross_each_edge<R: Abort + AllocGlobal>(
-    rt: &R,
-    name: &str,
-    addr: &Address,
-) -> Result<bool, Fail> {
-    let mut crossed = false;
+/// Crosses an edge of a tile, and then crosses back.
+fn cross(alloc: Global, name: &str, addr: &Address, edge: u16) -> Result<Crossed, NoMemory> {
+    let line = format!(in alloc; "neighbour rule={name} addr={addr} edge={edge}")?;
+    let ended = told(alloc, line.as_str(), "", &SOUND)?;
+    let (code, rest) = ended.as_str().split_once(' ').unwrap_or(("", ""));
+    let (text, _) = rest.split_once('\n').unwrap_or(("", ""));
+    Ok(if code == "8" {
+        Crossed::Outside
+    } else if code == "12" {
+        Crossed::NoEdge
+    } else if code == "0" && leads_back(alloc, name, text, addr, edge)? {
+        Crossed::There
+    } else {
+        Crossed::Otherwise
+    })
+}
+
+/// Goes across each edge of a tile and back. Returns whether there is a tile across one, and whether an edge
+/// comes out otherwise.
+fn cross_each_edge(alloc: Global, name: &str, addr: &Address) -> (bool, bool) {
+    let mut is_inner = false;
     for edge in 0..256 {
-        match cross(rt, name, addr, edge)? {
-            Some(is_inner) => crossed = crossed || is_inner,
-            None => return Ok(crossed),
+        match cross(alloc, name, addr, edge).unwrap_or(Crossed::Otherwise) {
+            Crossed::There => is_inner = true,
+            Crossed::Outside => (),
+            Crossed::NoEdge => return (is_inner, false),
+            Crossed::Otherwise => return (is_inner, true),
         }
     }
-    Ok(crossed)
+    (is_inner, false)
 }
 
-/// How many of 100 drawn tiles have a tile across an edge, and the greatest depth among them.
-fn drawn<R: Abort + AllocGlobal>(rt: &R, uses: &Uses, name: &str) -> Result<(u64, u8), Fail> {
+/// Returns true if each edge of 100 drawn tiles comes out right, over 90 of them have a tile across an edge,
+/// and one is deeper than 60.
+fn are_right(alloc: Global, uses: &Uses, name: &str) -> bool {
     let mut draws = Draws { state: 42 };
     let mut most: u8 = 0;
-    let mut tiles: u64 = 0;
+    let mut inner: u64 = 0;
     for _ in 0..100 {
         let addr = grown(uses, &mut draws);
         most = most.max(addr.depth());
-        if cross_each_edge(rt, name, &addr)? {
-            tiles = tiles.saturating_add(1);
+        let (is_inner, is_wrong) = cross_each_edge(alloc, name, &addr);
+        if is_wrong {
+            return false;
         }
+        inner = inner.saturating_add(u64::from(is_inner));
     }
-    Ok((tiles, most))
+    most > 60 && inner > 90
 }
 
 /// The built-in rules.
@@ -138,13 +143,20 @@ static NAMES: [(Name, &str); 5] = [
     (Name::HalfHex, "halfhex"),
 ];
 
-#[test]
-fn across_and_back(rt: HostRuntime) -> Result<(), Fail> {
-    for (name, text) in NAMES.iter() {
-        let checked = builtin(rt.alloc(), *name)?;
-        let (tiles, most) = drawn(&rt, checked.uses(), text)?;
-        assert!(&rt; most > 60, "{name:?}");
-        assert!(&rt; tiles > 90, "{name:?} {tiles}");
+/// The first rule whose tiles come out otherwise.
+fn first_wrong(alloc: Global) -> Wrong {
+    let mut wrong = Wrong::default();
+    for (name, text) in &NAMES {
+        let is_right = match builtin(alloc, *name) {
+            Ok(checked) => are_right(alloc, checked.uses(), text),
+            Err(_) => false,
+        };
+        wrong.note(text, 0, is_right);
     }
-    Ok(())
+    wrong
+}
+
+#[test]
+fn across_and_back(rt: HostRuntime) {
+    assert_eq!(rt; first_wrong(rt.alloc()).name, "");
 }

@@ -1,14 +1,17 @@
 //! A source, a sink and notes that fail at each of their calls in turn, for a call of every command.
-use crate::calls::CHAIRS_LIST;
+use crate::calls::{CHAIRS_LIST, comes_to};
 use crate::files::CHAIR;
-use crate::told::{Failing, SOUND, told};
-use std::process::Abort;
-use std::test::Fail;
+use crate::told::{Failing, SOUND};
+use crate::wrong::Wrong;
+use std::alloc::{AllocError, Global};
 
 const SCRIPT: &str = "let a 0:0/0,1/0\nacross a 4 b\ncommon a b\nplace b\n";
 
-/// A call of each command: its words, what its source holds, and what it prints.
-static CALLS: [(&str, &str, &str); 9] = [
+/// The words of a call, what its source holds, and what it prints.
+type Call = (&'static str, &'static str, &'static str);
+
+/// A call of each command.
+static CALLS: [Call; 9] = [
     ("place rule=- addr=0:1/0,2/0", CHAIR, "0 1 7,1,0,0\n"),
     (
         "neighbour rule=- addr=0:0/0,1/0 edge=4",
@@ -48,9 +51,11 @@ static CALLS: [(&str, &str, &str); 9] = [
     ),
 ];
 
-/// A refused call of each command: its arguments, the content of its source, its exit code, and its note
-/// without the newline.
-static REFUSED: [(&str, &str, u8, &str); 9] = [
+/// The words of a refused call, what its source holds, its exit code, and its note without the newline.
+type Refused = (&'static str, &'static str, u8, &'static str);
+
+/// A refused call of each command.
+static REFUSED: [Refused; 9] = [
     (
         "place rule=- addr=0:4/0",
         CHAIR,
@@ -92,81 +97,78 @@ static REFUSED: [(&str, &str, u8, &str); 9] = [
     ),
 ];
 
-/// Runs a call once more with sound streams: it prints its text.
-fn check_sound<R: Abort + AllocGlobal>(
-    rt: &R,
-    line: &str,
-    file: &str,
-    text: &str,
-) -> Result<(), Fail> {
-    let alloc = rt.alloc();
+/// Returns true if a call prints the front of its text and reports the write that fails after so many.
+fn reports_write(alloc: Global, call: &Call, writes: usize) -> Result<bool, AllocError> {
+    let (line, file, text) = call;
+    let front = text.get(..writes).unwrap_or("?");
+    let wanted = format!(in alloc; "10 {front}|10 WriteFault\n")?;
+    let failing = Failing { writes, ..SOUND };
+    Ok(comes_to(alloc, line, file, &failing, wanted.as_str()))
+}
+
+/// Returns true if a call reports the read of this number, which fails.
+fn reports_read(alloc: Global, call: &Call, read: u64) -> bool {
+    let failing = Failing { read, ..SOUND };
+    comes_to(alloc, call.0, call.1, &failing, "9 |9 ReadFault\n")
+}
+
+/// Returns true if a call prints its text, with sound streams and where a read fails that doesn't come. The
+/// given number of reads gives the bytes, and one more the end.
+fn prints(alloc: Global, call: &Call, last: u64) -> Result<bool, AllocError> {
+    let (line, file, text) = call;
     let wanted = format!(in alloc; "0 {text}|")?;
-    assert_eq!(rt;
-        told(alloc, line, file, &SOUND)?.as_str(),
-        wanted.as_str(),
-        "{line}"
-    );
-    Ok(())
+    let beyond = Failing {
+        read: last.saturating_add(1),
+        ..SOUND
+    };
+    Ok(
+        comes_to(alloc, line, file, &SOUND, wanted.as_str())
+            && comes_to(alloc, line, file, &beyond, wanted.as_str()),
+    )
 }
 
-#[test]
-fn sinks_that_fail(rt: HostRuntime) -> Result<(), Fail> {
-    let alloc = rt.alloc();
-    for (line, file, text) in CALLS.iter() {
-        for writes in 0..text.len() {
-            let failing = Failing { writes, ..SOUND };
-            let ended = told(alloc, line, file, &failing)?;
-            let front = text.get(..writes).unwrap_or("?");
-            let wanted = format!(in alloc; "10 {front}|10 WriteFault\n")?;
-            assert_eq!(&rt; ended.as_str(), wanted.as_str(), "{line} {writes}");
+/// Returns true if the exit code of a refused call stays as it is where a note fails after so many bytes, and
+/// what is noted is the front of the note.
+fn keeps_code(alloc: Global, refused: &Refused, notes: usize) -> Result<bool, AllocError> {
+    let (line, file, code, note) = refused;
+    let front = note.get(..notes).unwrap_or(note);
+    let end = if notes > note.len() { "\n" } else { "" };
+    let wanted = format!(in alloc; "{code} |{front}{end}")?;
+    let failing = Failing { notes, ..SOUND };
+    Ok(comes_to(alloc, line, file, &failing, wanted.as_str()))
+}
+
+/// Notes the first call that comes out otherwise, where its writes or reads fail in turn.
+fn note_calls(alloc: Global, wrong: &mut Wrong) {
+    for call in &CALLS {
+        for writes in 0..call.2.len() {
+            let is_right = reports_write(alloc, call, writes).unwrap_or(false);
+            wrong.note(call.0, writes, is_right);
         }
-        check_sound(&rt, line, file, text)?;
-    }
-    Ok(())
-}
-
-// The given number of calls gives the bytes, and one more the end.
-#[test]
-fn sources_that_fail(rt: HostRuntime) -> Result<(), Fail> {
-    let alloc = rt.alloc();
-    for (line, file, text) in CALLS.iter() {
-        let last = (file.len() as u64).div_ceil(16) + 1;
+        let last = call.1.len().div_ceil(16) + 1;
         for read in 1..=last {
-            let ended = told(alloc, line, file, &Failing { read, ..SOUND })?;
-            assert_eq!(&rt; ended.as_str(), "9 |9 ReadFault\n", "{line} {read}");
+            wrong.note(call.0, read, reports_read(alloc, call, read as u64));
         }
-        let beyond = Failing {
-            read: last + 1,
-            ..SOUND
-        };
-        let wanted = format!(in alloc; "0 {text}|")?;
-        assert_eq!(&rt;
-            told(alloc, line, file, &beyond)?.as_str(),
-            wanted.as_str(),
-            "{line}"
-        );
-        check_sound(&rt, line, file, text)?;
+        let is_right = prints(alloc, call, last as u64).unwrap_or(false);
+        wrong.note(call.0, last, is_right);
     }
-    Ok(())
 }
 
-// The exit code stays as it is, and what is noted is a front part of the note.
-#[test]
-fn notes_that_fail(rt: HostRuntime) -> Result<(), Fail> {
-    let alloc = rt.alloc();
-    for (line, file, code, note) in REFUSED.iter() {
-        for notes in 0..note.len() {
-            let ended = told(alloc, line, file, &Failing { notes, ..SOUND })?;
-            let front = note.get(..notes).unwrap_or("?");
-            let wanted = format!(in alloc; "{code} |{front}")?;
-            assert_eq!(&rt; ended.as_str(), wanted.as_str(), "{line} {notes}");
+/// The first call that comes out otherwise, where its writes, reads or notes fail in turn.
+fn first_wrong(alloc: Global) -> Wrong {
+    let mut wrong = Wrong::default();
+    note_calls(alloc, &mut wrong);
+    for refused in &REFUSED {
+        for notes in 0..refused.3.len().saturating_add(2) {
+            let is_right = keeps_code(alloc, refused, notes).unwrap_or(false);
+            wrong.note(refused.0, notes, is_right);
         }
-        let wanted = format!(in alloc; "{code} |{note}\n")?;
-        assert_eq!(&rt;
-            told(alloc, line, file, &SOUND)?.as_str(),
-            wanted.as_str(),
-            "{line}"
-        );
     }
-    Ok(())
+    wrong
+}
+
+#[test]
+fn streams_that_fail(rt: HostRuntime) {
+    let wrong = first_wrong(rt.alloc());
+    assert_eq!(rt; wrong.name, "", "call {}", wrong.row);
 }

@@ -1,13 +1,13 @@
 //! Rule files read from the source: what is printed, and each refusal, on rows typed from outside.
 ghost use Rattle.std.specs.Prelude.{◌≤◌};
 
-use crate::calls::wanted;
+use crate::calls::{Row, wanted};
 use crate::told::{SOUND, told_over};
+use crate::wrong::Wrong;
 use std::alloc::{AllocError, Global};
-use std::process::Abort;
-use std::test::Fail;
 use tile_io::mem_source::MemSource;
 use tile_io::source::Source;
+use tile_shape::no_memory::NoMemory;
 
 // The chair.
 pub(crate) const CHAIR: &str = "format = 1
@@ -55,9 +55,19 @@ edges = [2, 7, 0]
 children = [[3,6, 0,1,0,0], [2,0, -1,1,0,0], [0,5, 0,1,0,0]]
 ";
 
-// Words, what of the chair's file is replaced by what, the exit code that is wanted, the line
-// printed, and the line noted.
-static CHAIR_ROWS: [(&str, &str, &str, u8, &str, &str); 24] = [
+/// Words, what of a file is replaced by what, the exit code that is wanted, the line printed, and the line
+/// noted.
+type Changed = (
+    &'static str,
+    &'static str,
+    &'static str,
+    u8,
+    &'static str,
+    &'static str,
+);
+
+/// Changes of the chair's file.
+static CHAIR_ROWS: [Changed; 24] = [
     (
         "check rule=-",
         "",
@@ -218,7 +228,7 @@ static CHAIR_ROWS: [(&str, &str, &str, u8, &str, &str); 24] = [
 ];
 
 // The same of Penrose's rhombs.
-static P3_ROWS: [(&str, &str, &str, u8, &str, &str); 6] = [
+static P3_ROWS: [Changed; 6] = [
     (
         "check rule=-",
         "",
@@ -283,7 +293,7 @@ children = [[0,3, 0,1,0,0], [0,2, 0,1,0,0]]
 ";
 
 // The same of the half square.
-static HALF_SQUARE_ROWS: [(&str, &str, &str, u8, &str, &str); 8] = [
+static HALF_SQUARE_ROWS: [Changed; 8] = [
     (
         "check rule=-",
         "",
@@ -343,7 +353,20 @@ static HALF_SQUARE_ROWS: [(&str, &str, &str, u8, &str, &str); 8] = [
     ),
 ];
 
-// Returns the text with the first occurrence of the old text replaced by the new one.
+/// Files without a format: none, and the longest that is read; and one that is too long.
+pub static LONG_FILES: [Row; 3] = [
+    ("check rule=-", "", 3, "", "3 RuleRefused Missing format"),
+    (
+        "check rule=-",
+        "«#×1048576»",
+        3,
+        "",
+        "3 RuleRefused Missing format",
+    ),
+    ("check rule=-", "«#×1048577»", 3, "", "3 RuleTooLong"),
+];
+
+/// Returns the text with the first occurrence of the old text replaced by the new one.
 fn changed(alloc: Global, text: &str, old: &str, new: &str) -> Result<String, AllocError> {
     match text.split_once(old) {
         Some((before, behind)) => format!(in alloc; "{before}{new}{behind}"),
@@ -351,66 +374,46 @@ fn changed(alloc: Global, text: &str, old: &str, new: &str) -> Result<String, Al
     }
 }
 
-/// Runs a line of arguments over a file, and compares the outcome. Returns how many bytes the source gives in
-/// one more call, at most 16.
-fn check_file<R: Abort + AllocGlobal>(
-    rt: &R,
-    line: &str,
-    file: String,
-    code: u8,
-    text: &str,
-    note: &str,
-) -> Result<usize, Fail> {
-    let alloc = rt.alloc();
-    let mut source = MemSource::new(file.into_bytes(), 16, Vec::new(alloc));
-    let ended = told_over(alloc, line, &mut source, &SOUND)?;
-    let wanted = wanted(alloc, code, text, note)?;
-    assert_eq!(rt; ended.as_str(), wanted.as_str(), "{line}");
+/// How many bytes a source gives in one more call, at most 16.
+fn given(source: &mut MemSource) -> usize {
     let mut buf = [0; 16];
-    Ok(source.read(&mut buf).unwrap_or(1000))
+    source.read(&mut buf).unwrap_or(1000)
 }
 
-/// Compares the outcomes of changed files. A file is read to its end if the arguments are right and name no
-/// rule.
-fn check_rows<R: Abort + AllocGlobal>(
-    rt: &R,
-    file: &str,
-    rows: &[(&str, &str, &str, u8, &str, &str)],
-) -> Result<(), Fail> {
-    for (words, old, new, code, text, note) in rows {
-        let file = changed(rt.alloc(), file, old, new)?;
-        let left = check_file(rt, words, file, *code, text, note)?;
-        let is_read = *code != 2 && *words != "check rule=chair";
-        assert_eq!(rt; left, if is_read { 0 } else { 16 }, "{words}");
+/// Returns true if a changed file comes out as its row says. A file is read to its end if the arguments are
+/// right and name no rule.
+fn is_right(alloc: Global, file: &str, row: &Changed) -> Result<bool, NoMemory> {
+    let (words, old, new, code, text, note) = row;
+    let bytes = changed(alloc, file, old, new)?.into_bytes();
+    let mut source = MemSource::new(bytes, 16, Vec::new(alloc));
+    let ended = told_over(alloc, words, &mut source, &SOUND)?;
+    let wanted = wanted(alloc, *code, text, note)?;
+    let is_read = *code != 2 && *words != "check rule=chair";
+    let left = if is_read { 0 } else { 16 };
+    Ok(ended.as_str() == wanted.as_str() && given(&mut source) == left)
+}
+
+/// Notes the first changed file that comes out otherwise.
+fn note_changed(alloc: Global, wrong: &mut Wrong, file: &'static str, rows: &[Changed]) {
+    for (number, row) in rows.iter().enumerate() {
+        wrong.note(file, number, is_right(alloc, file, row).unwrap_or(false));
     }
-    Ok(())
 }
 
-#[test]
-fn changed_files(rt: HostRuntime) -> Result<(), Fail> {
-    check_rows(&rt, CHAIR, CHAIR_ROWS.as_slice())?;
-    check_rows(&rt, P3, P3_ROWS.as_slice())?;
-    check_rows(&rt, HALF_SQUARE, HALF_SQUARE_ROWS.as_slice())
-}
-
-#[test]
-fn long_files(rt: HostRuntime) -> Result<(), Fail> {
-    let alloc = rt.alloc();
-    let check = "check rule=-";
-    let missing = "3 RuleRefused Missing format";
-    check_file(&rt, check, String::new(alloc), 3, "", missing)?;
-    let longest = "#".repeat(alloc, 1_048_576)?;
-    check_file(&rt, check, longest, 3, "", missing)?;
-    let too_long = "#".repeat(alloc, 1_048_577)?;
-    check_file(&rt, check, too_long, 3, "", "3 RuleTooLong")?;
-    Ok(())
-}
-
-#[test]
-fn no_text(rt: HostRuntime) -> Result<(), Fail> {
-    let alloc = rt.alloc();
+/// What comes of a file that is no text.
+fn told_of_no_text(alloc: Global) -> Result<String, NoMemory> {
     let mut source = MemSource::new(vec![in alloc; 255]?, 1, Vec::new(alloc));
-    let ended = told_over(alloc, "check rule=-", &mut source, &SOUND)?;
-    assert_eq!(rt; ended.as_str(), "3 |3 RuleRefused NotToml\n");
-    Ok(())
+    told_over(alloc, "check rule=-", &mut source, &SOUND)
+}
+
+/// Notes the first file that comes out otherwise.
+pub fn note_files(alloc: Global, wrong: &mut Wrong) {
+    note_changed(alloc, wrong, CHAIR, &CHAIR_ROWS);
+    note_changed(alloc, wrong, P3, &P3_ROWS);
+    note_changed(alloc, wrong, HALF_SQUARE, &HALF_SQUARE_ROWS);
+    let is_refused = match told_of_no_text(alloc) {
+        Ok(ended) => ended.as_str() == "3 |3 RuleRefused NotToml\n",
+        Err(_) => false,
+    };
+    wrong.note("no text", 0, is_refused);
 }

@@ -1,126 +1,288 @@
 //! Listings for `verify`, and what is said of them.
-use crate::told::{SOUND, told, told_over};
-use std::alloc::AllocError;
-use std::process::Abort;
-use std::test::Fail;
+use crate::calls::Row;
+use crate::told::{SOUND, told_over};
+use crate::wrong::Wrong;
+use std::alloc::{AllocError, Global};
 use tile_io::mem_source::MemSource;
+use tile_shape::no_memory::NoMemory;
 
 /// The window of two chairs around the base.
 const WINDOW: &str = "verify rule=chair seed=42 addr=0: at=1,1,0,0 half=2,1";
 
-/// Right listings of it.
-static RIGHT: [&str; 4] = [
-    "0 0 0,0,0,0 0:3/0\n0 1 3,1,0,0 0:1/0\n",
-    "0 0 0,0,0,0 0:3/0\n0 1 3,1,0,0 0:1/0",
-    "0 1 3,1,0,0 0:1/0\n0 0 0,0,0,0 0:3/0\n",
-    "0 0 0,0,0,0 0:\n0 1 3,1,0,0 0:1/0\n",
-];
-
-/// Listings of it with a fault, and the fault.
-static FAULTS: [(&str, &str); 38] = [
-    ("0 0 0,0,0,0 0:3/0\n0 1 3,1,0,0 0:1/0 + x\n", "BadLine 2 4"),
-    ("\n", "BadLine 1 0"),
-    ("0 0 0,0,0,0 0:\n\n", "BadLine 2 0"),
-    ("0 0 0,0,0,0 0:\n\n0 0 0,0,0,0 0:", "BadLine 2 0"),
-    ("0 0 0,0,0 0: x\n", "BadLine 1 2"),
-    ("0 x\n", "BadLine 1 1"),
-    ("0\n", "BadLine 1 1"),
-    ("0 \n", "BadLine 1 1"),
-    ("0 0\n", "BadLine 1 2"),
-    ("0 0 0,0,0,0\n", "BadLine 1 3"),
-    ("0 0 0,0,0,0 \n", "BadLine 1 3"),
-    ("0 0 0,0,0,0  0:\n", "BadLine 1 3"),
-    ("0  0 0,0,0,0 0:\n", "BadLine 1 1"),
-    (" 0 0 0,0,0,0 0:\n", "BadLine 1 0"),
-    ("0 0 0,0,0,0 0: \n", "BadLine 1 4"),
-    ("0 0 0,0,0,0 x y\n", "BadLine 1 4"),
-    ("256 0 0,0,0,0 0:\n", "BadLine 1 0"),
-    ("0 00 0,0,0,0 0:\n", "BadLine 1 1"),
-    ("0 0 -0,0,0,0 0:\n", "BadLine 1 2"),
-    ("0 0 +1,0,0,0 0:\n", "BadLine 1 2"),
-    ("0 0 16777217,0,0,0 0:\n", "BadLine 1 2"),
-    ("0 0 0,0,0,-16777217 0:\n", "BadLine 1 2"),
-    ("0 0 0,0,0,0,0 0:\n", "BadLine 1 2"),
-    ("0 0 0,0,0, 0:\n", "BadLine 1 2"),
-    ("\r\n", "BadLine 1 0"),
-    ("0 0 0,0,0,0 0:\r\n", "Address 1 BadText 2"),
-    ("0 0 0,0,0,0 0:4/0\n", "Address 1 WrongChild 0"),
-    ("0 0 0,0,0,0 0:3/0,12/0\n", "Address 1 WrongChild 1"),
-    ("1 0 0,0,0,0 0:\n", "BadKind 1"),
-    ("0 0 0,0,0,0 0:\n1 0 0,0,0,0 0:\n\n", "BadKind 2"),
-    ("0 0 0,0,0,0 0:3/0\n", "Missing 0:1/0"),
-    ("", "Missing 0:1/0"),
+/// Right listings of it, and listings with a fault.
+pub static LISTINGS: [Row; 43] = [
     (
+        WINDOW,
+        "0 0 0,0,0,0 0:3/0\n0 1 3,1,0,0 0:1/0\n",
+        0,
+        "right 2",
+        "",
+    ),
+    (
+        WINDOW,
+        "0 0 0,0,0,0 0:3/0\n0 1 3,1,0,0 0:1/0",
+        0,
+        "right 2",
+        "",
+    ),
+    (
+        WINDOW,
+        "0 1 3,1,0,0 0:1/0\n0 0 0,0,0,0 0:3/0\n",
+        0,
+        "right 2",
+        "",
+    ),
+    (
+        WINDOW,
+        "0 0 0,0,0,0 0:\n0 1 3,1,0,0 0:1/0\n",
+        0,
+        "right 2",
+        "",
+    ),
+    (
+        WINDOW,
+        "0 0 0,0,0,0 0:3/0\n0 1 3,1,0,0 0:1/0 + x\n",
+        17,
+        "",
+        "17 BadListing BadLine 2 4",
+    ),
+    (WINDOW, "\n", 17, "", "17 BadListing BadLine 1 0"),
+    (
+        WINDOW,
+        "0 0 0,0,0,0 0:\n\n",
+        17,
+        "",
+        "17 BadListing BadLine 2 0",
+    ),
+    (
+        WINDOW,
+        "0 0 0,0,0,0 0:\n\n0 0 0,0,0,0 0:",
+        17,
+        "",
+        "17 BadListing BadLine 2 0",
+    ),
+    (
+        WINDOW,
+        "0 0 0,0,0 0: x\n",
+        17,
+        "",
+        "17 BadListing BadLine 1 2",
+    ),
+    (WINDOW, "0 x\n", 17, "", "17 BadListing BadLine 1 1"),
+    (WINDOW, "0\n", 17, "", "17 BadListing BadLine 1 1"),
+    (WINDOW, "0 \n", 17, "", "17 BadListing BadLine 1 1"),
+    (WINDOW, "0 0\n", 17, "", "17 BadListing BadLine 1 2"),
+    (WINDOW, "0 0 0,0,0,0\n", 17, "", "17 BadListing BadLine 1 3"),
+    (
+        WINDOW,
+        "0 0 0,0,0,0 \n",
+        17,
+        "",
+        "17 BadListing BadLine 1 3",
+    ),
+    (
+        WINDOW,
+        "0 0 0,0,0,0  0:\n",
+        17,
+        "",
+        "17 BadListing BadLine 1 3",
+    ),
+    (
+        WINDOW,
+        "0  0 0,0,0,0 0:\n",
+        17,
+        "",
+        "17 BadListing BadLine 1 1",
+    ),
+    (
+        WINDOW,
+        " 0 0 0,0,0,0 0:\n",
+        17,
+        "",
+        "17 BadListing BadLine 1 0",
+    ),
+    (
+        WINDOW,
+        "0 0 0,0,0,0 0: \n",
+        17,
+        "",
+        "17 BadListing BadLine 1 4",
+    ),
+    (
+        WINDOW,
+        "0 0 0,0,0,0 x y\n",
+        17,
+        "",
+        "17 BadListing BadLine 1 4",
+    ),
+    (
+        WINDOW,
+        "256 0 0,0,0,0 0:\n",
+        17,
+        "",
+        "17 BadListing BadLine 1 0",
+    ),
+    (
+        WINDOW,
+        "0 00 0,0,0,0 0:\n",
+        17,
+        "",
+        "17 BadListing BadLine 1 1",
+    ),
+    (
+        WINDOW,
+        "0 0 -0,0,0,0 0:\n",
+        17,
+        "",
+        "17 BadListing BadLine 1 2",
+    ),
+    (
+        WINDOW,
+        "0 0 +1,0,0,0 0:\n",
+        17,
+        "",
+        "17 BadListing BadLine 1 2",
+    ),
+    (
+        WINDOW,
+        "0 0 16777217,0,0,0 0:\n",
+        17,
+        "",
+        "17 BadListing BadLine 1 2",
+    ),
+    (
+        WINDOW,
+        "0 0 0,0,0,-16777217 0:\n",
+        17,
+        "",
+        "17 BadListing BadLine 1 2",
+    ),
+    (
+        WINDOW,
+        "0 0 0,0,0,0,0 0:\n",
+        17,
+        "",
+        "17 BadListing BadLine 1 2",
+    ),
+    (
+        WINDOW,
+        "0 0 0,0,0, 0:\n",
+        17,
+        "",
+        "17 BadListing BadLine 1 2",
+    ),
+    (WINDOW, "\r\n", 17, "", "17 BadListing BadLine 1 0"),
+    (
+        WINDOW,
+        "0 0 0,0,0,0 0:\r\n",
+        17,
+        "",
+        "17 BadListing Address 1 BadText 2",
+    ),
+    (
+        WINDOW,
+        "0 0 0,0,0,0 0:4/0\n",
+        17,
+        "",
+        "17 BadListing Address 1 WrongChild 0",
+    ),
+    (
+        WINDOW,
+        "0 0 0,0,0,0 0:3/0,12/0\n",
+        17,
+        "",
+        "17 BadListing Address 1 WrongChild 1",
+    ),
+    (
+        WINDOW,
+        "1 0 0,0,0,0 0:\n",
+        17,
+        "",
+        "17 BadListing BadKind 1",
+    ),
+    (
+        WINDOW,
+        "0 0 0,0,0,0 0:\n1 0 0,0,0,0 0:\n\n",
+        17,
+        "",
+        "17 BadListing BadKind 2",
+    ),
+    (
+        WINDOW,
+        "0 0 0,0,0,0 0:3/0\n",
+        17,
+        "",
+        "17 BadListing Missing 0:1/0",
+    ),
+    (WINDOW, "", 17, "", "17 BadListing Missing 0:1/0"),
+    (
+        WINDOW,
         "0 0 0,0,0,0 0:3/0\n0 1 3,1,0,0 0:1/0\n0 1 4,0,0,0 0:0/0\n",
-        "Stray 3",
+        17,
+        "",
+        "17 BadListing Stray 3",
     ),
     (
+        WINDOW,
         "0 0 0,0,0,0 0:3/0\n0 1 3,1,0,0 0:1/0\n0 0 0,0,0,0 0:3/0\n",
-        "Double 3",
+        17,
+        "",
+        "17 BadListing Double 3",
     ),
     (
+        WINDOW,
         "0 0 0,0,0,0 0:3/0\n0 1 3,1,0,0 0:1/0\n0 0 0,0,0,0 0:\n",
-        "Double 3",
+        17,
+        "",
+        "17 BadListing Double 3",
     ),
     (
+        WINDOW,
         "0 0 0,0,0,0 0:3/0\n0 1 3,2,0,0 0:1/0\n",
-        "WrongPlace 2 1 3,1,0,0",
+        17,
+        "",
+        "17 BadListing WrongPlace 2 1 3,1,0,0",
     ),
     (
+        WINDOW,
         "0 0 0,0,0,0 0:3/0\n0 1 3,1,7,0 0:1/0\n",
-        "WrongPlace 2 1 3,1,0,0",
+        17,
+        "",
+        "17 BadListing WrongPlace 2 1 3,1,0,0",
     ),
     (
+        WINDOW,
         "0 0 0,0,0,0 0:3/0\n0 5 3,1,0,0 0:1/0\n",
-        "WrongPlace 2 1 3,1,0,0",
+        17,
+        "",
+        "17 BadListing WrongPlace 2 1 3,1,0,0",
+    ),
+    (
+        "verify rule=p3 addr=2: at=0,0,0,0 half=1,1",
+        "0 0 0,0,0,0 0:\n",
+        17,
+        "",
+        "17 BadListing NotOfFrame 1",
     ),
 ];
 
-/// What comes of a listing, as a text.
-fn check<R: Abort + AllocGlobal>(
-    rt: &R,
-    words: &str,
-    listing: &str,
-    wanted: &str,
-) -> Result<(), Fail> {
-    let ended = told(rt.alloc(), words, listing, &SOUND)?;
-    assert_eq!(rt; ended.as_str(), wanted, "{listing}");
-    Ok(())
-}
-
-#[test]
-fn right_listings(rt: HostRuntime) -> Result<(), Fail> {
-    for listing in &RIGHT {
-        check(&rt, WINDOW, listing, "0 right 2\n|")?;
-    }
-    Ok(())
-}
-
-#[test]
-fn faulty_listings(rt: HostRuntime) -> Result<(), Fail> {
-    for (listing, fault) in FAULTS.iter() {
-        let wanted = format!(in rt.alloc(); "17 |17 BadListing {fault}\n")?;
-        check(&rt, WINDOW, listing, wanted.as_str())?;
-    }
-    let strange = "verify rule=p3 addr=2: at=0,0,0,0 half=1,1";
-    check(
-        &rt,
-        strange,
-        "0 0 0,0,0,0 0:\n",
-        "17 |17 BadListing NotOfFrame 1\n",
-    )
-}
-
-// The greatest number of lines, all the same, and one line more.
-#[test]
-fn long_listings(rt: HostRuntime) -> Result<(), Fail> {
-    let alloc = rt.alloc();
-    let line = "0 0 0,0,0,0 0:\n";
-    let most = line.repeat(alloc, 200_000)?;
-    check(&rt, WINDOW, most.as_str(), "17 |17 BadListing Double 2\n")?;
-    let more = format!(in alloc; "{most}x")?;
-    check(&rt, WINDOW, more.as_str(), "17 |17 BadListing TooLong\n")
-}
+/// Listings of the greatest number of lines, all the same, and of one line more.
+pub static LONG_LISTINGS: [Row; 2] = [
+    (
+        WINDOW,
+        "«0 0 0,0,0,0 0:\n×200000»",
+        17,
+        "",
+        "17 BadListing Double 2",
+    ),
+    (
+        WINDOW,
+        "«0 0 0,0,0,0 0:\n×200000»x",
+        17,
+        "",
+        "17 BadListing TooLong",
+    ),
+];
 
 /// The digits of the chair.
 static DIGITS: [&str; 4] = ["0/0,", "1/0,", "2/0,", "3/0,"];
@@ -138,17 +300,29 @@ fn put_counted(listing: &mut String, number: usize) -> Result<(), AllocError> {
     listing.push_str("0/0\n")
 }
 
-// The greatest number of lines, of different tiles; only the last line repeats the tile of the first.
-#[test]
-fn long_listing_of_different_tiles(rt: HostRuntime) -> Result<(), Fail> {
-    let alloc = rt.alloc();
+/// Returns a listing of the greatest number of lines, of different tiles; only the last line repeats the tile
+/// of the first.
+fn different_tiles(alloc: Global) -> Result<String, AllocError> {
     let mut listing = String::new(alloc);
     for number in 0..199_999 {
         put_counted(&mut listing, number)?;
     }
     put_counted(&mut listing, 0)?;
-    let mut source = MemSource::new(listing.into_bytes(), 65_536, Vec::new(alloc));
-    let ended = told_over(alloc, WINDOW, &mut source, &SOUND)?;
-    assert_eq!(rt; ended.as_str(), "17 |17 BadListing Double 200000\n");
-    Ok(())
+    Ok(listing)
+}
+
+/// Returns what comes of that listing.
+fn told_of_different_tiles(alloc: Global) -> Result<String, NoMemory> {
+    let listing = different_tiles(alloc)?.into_bytes();
+    let mut source = MemSource::new(listing, 65_536, Vec::new(alloc));
+    told_over(alloc, WINDOW, &mut source, &SOUND)
+}
+
+/// Notes that listing, if it isn't refused for its last line.
+pub fn note_different_tiles(alloc: Global, wrong: &mut Wrong) {
+    let is_refused = match told_of_different_tiles(alloc) {
+        Ok(ended) => ended.as_str() == "17 |17 BadListing Double 200000\n",
+        Err(_) => false,
+    };
+    wrong.note("different tiles", 0, is_refused);
 }

@@ -1,9 +1,8 @@
 //! Rule files that strain the check: the chair with a part repeated, turned round or left out.
-use crate::calls::wanted;
-use crate::told::{SOUND, told};
+use crate::calls::comes_to;
+use crate::told::SOUND;
+use crate::wrong::Wrong;
 use std::alloc::{AllocError, Global};
-use std::process::Abort;
-use std::test::Fail;
 
 /// The text in front of the types.
 const HEAD: &str = "format = 1\norder = 4\nlambda = [2, 0, 0, 0]\nglue = []\n";
@@ -14,121 +13,188 @@ const TYPE: &str = "[[type]]\nmate = 0\nparts = [0, 0]\n";
 /// A type that is no mate of its mate, where there are two of it.
 const UNPAIRED: &str = "[[type]]\nmate = 1\nparts = [0, 0]\n";
 
-/// The vertices of the kind.
-const VERTICES: &str =
-    "[1,1,0,0],[1,2,0,0],[0,2,0,0],[0,1,0,0],[0,0,0,0],[1,0,0,0],[2,0,0,0],[2,1,0,0]";
+/// The kind without its children.
+const KIND: &str =
+    "[[kind]]\nvertices = [[1,1,0,0],[1,2,0,0],[0,2,0,0],[0,1,0,0],[0,0,0,0],[1,0,0,0],[2,0,0,0],[2,1,0,0]]\nedges = [0, 0, 0, 0, 0, 0, 0, 0]\n";
 
-/// The same from the last to the first.
+/// The same with its vertices from the last to the first.
 const REVERSED: &str =
-    "[2,1,0,0],[2,0,0,0],[1,0,0,0],[0,0,0,0],[0,1,0,0],[0,2,0,0],[1,2,0,0],[1,1,0,0]";
+    "[[kind]]\nvertices = [[2,1,0,0],[2,0,0,0],[1,0,0,0],[0,0,0,0],[0,1,0,0],[0,2,0,0],[1,2,0,0],[1,1,0,0]]\nedges = [0, 0, 0, 0, 0, 0, 0, 0]\n";
 
-/// The vertices of a square that is slit along a half of its diagonal.
-const SLIT: &str = "[0,0,0,0],[1,0,0,0],[0,1,0,0],[-1,0,0,0],[0,-1,0,0],[1,0,0,0]";
+/// A square that is slit along a half of its diagonal, without its children.
+const SLIT: &str =
+    "[[kind]]\nvertices = [[0,0,0,0],[1,0,0,0],[0,1,0,0],[-1,0,0,0],[0,-1,0,0],[1,0,0,0]]\nedges = [0, 0, 0, 0, 0, 0]\n";
 
-/// The edges of the kind.
-const EIGHT: &str = "0, 0, 0, 0, 0, 0, 0, 0";
+/// The children of the kind, up to the last bracket.
+const CHILDREN: &str = "children = [[0,0, 0,0,0,0],[0,0, 1,1,0,0],[0,1, 4,0,0,0],[0,3, 0,4,0,0]";
 
-/// Six edges.
-const SIX: &str = "0, 0, 0, 0, 0, 0";
+/// The first child once more, and all of them.
+const FIRST: &str = ",[0,0, 0,0,0,0]";
 
-/// The children of the kind.
-const CHILDREN: &str = "[0,0, 0,0,0,0],[0,0, 1,1,0,0],[0,1, 4,0,0,0],[0,3, 0,4,0,0]";
+const AGAIN: &str = ",[0,0, 0,0,0,0],[0,0, 1,1,0,0],[0,1, 4,0,0,0],[0,3, 0,4,0,0]";
 
-/// The first child.
-const FIRST: &str = "[0,0, 0,0,0,0]";
+/// The end of the children.
+const END: &str = "]\n";
 
-/// Vertices, edges and children of a kind, further children and how often they come, and the refusal.
-static KIND_ROWS: [(&str, &str, &str, &str, usize, &str); 4] = [
-    (VERTICES, EIGHT, CHILDREN, FIRST, 13, "TooMany child 0"),
-    (REVERSED, EIGHT, CHILDREN, "", 0, "NotStar 0"),
-    (SLIT, SIX, CHILDREN, "", 0, "NotStar 0"),
+/// A whole chair.
+const CHAIR: &str =
+    "[[kind]]\nvertices = [[1,1,0,0],[1,2,0,0],[0,2,0,0],[0,1,0,0],[0,0,0,0],[1,0,0,0],[2,0,0,0],[2,1,0,0]]\nedges = [0, 0, 0, 0, 0, 0, 0, 0]\nchildren = [[0,0, 0,0,0,0],[0,0, 1,1,0,0],[0,1, 4,0,0,0],[0,3, 0,4,0,0]]\n";
+
+/// Pieces of a file, and how often each is repeated.
+type Pieces = &'static [(&'static str, usize)];
+
+/// Files, and what `check` comes to.
+static FILES: [(Pieces, &str); 9] = [
     (
-        VERTICES,
-        EIGHT,
-        CHILDREN,
-        CHILDREN,
-        1,
-        "ChildEdgeLoose 0 0 0",
+        &[
+            (HEAD, 1),
+            (TYPE, 1),
+            (KIND, 1),
+            (CHILDREN, 1),
+            (FIRST, 13),
+            (END, 1),
+        ],
+        "3 |3 RuleRefused TooMany child 0\n",
+    ),
+    (
+        &[(HEAD, 1), (TYPE, 1), (REVERSED, 1), (CHILDREN, 1), (END, 1)],
+        "3 |3 RuleRefused NotStar 0\n",
+    ),
+    (
+        &[(HEAD, 1), (TYPE, 1), (SLIT, 1), (CHILDREN, 1), (END, 1)],
+        "3 |3 RuleRefused NotStar 0\n",
+    ),
+    (
+        &[
+            (HEAD, 1),
+            (TYPE, 1),
+            (KIND, 1),
+            (CHILDREN, 1),
+            (AGAIN, 1),
+            (END, 1),
+        ],
+        "3 |3 RuleRefused ChildEdgeLoose 0 0 0\n",
+    ),
+    (
+        &[(HEAD, 1), ("kind = []\n", 1), (TYPE, 1)],
+        "3 |3 RuleRefused TooMany kinds\n",
+    ),
+    (
+        &[(HEAD, 1), (UNPAIRED, 2), (CHAIR, 1)],
+        "3 |3 RuleRefused BadMate 0\n",
+    ),
+    (
+        &[(HEAD, 1), (TYPE, 1), (CHAIR, 2)],
+        "3 |3 RuleRefused Unused 1\n",
+    ),
+    (
+        &[(HEAD, 1), (TYPE, 1), (CHAIR, 17)],
+        "3 |3 RuleRefused TooMany kinds\n",
+    ),
+    // sixteen kinds like the chair, each with children of the next one, and the last with children of kind 0
+    (
+        &[
+            (HEAD, 1),
+            (TYPE, 1),
+            (KIND, 1),
+            (
+                "children = [[1,0, 0,0,0,0],[1,0, 1,1,0,0],[1,1, 4,0,0,0],[1,3, 0,4,0,0]]\n",
+                1,
+            ),
+            (KIND, 1),
+            (
+                "children = [[2,0, 0,0,0,0],[2,0, 1,1,0,0],[2,1, 4,0,0,0],[2,3, 0,4,0,0]]\n",
+                1,
+            ),
+            (KIND, 1),
+            (
+                "children = [[3,0, 0,0,0,0],[3,0, 1,1,0,0],[3,1, 4,0,0,0],[3,3, 0,4,0,0]]\n",
+                1,
+            ),
+            (KIND, 1),
+            (
+                "children = [[4,0, 0,0,0,0],[4,0, 1,1,0,0],[4,1, 4,0,0,0],[4,3, 0,4,0,0]]\n",
+                1,
+            ),
+            (KIND, 1),
+            (
+                "children = [[5,0, 0,0,0,0],[5,0, 1,1,0,0],[5,1, 4,0,0,0],[5,3, 0,4,0,0]]\n",
+                1,
+            ),
+            (KIND, 1),
+            (
+                "children = [[6,0, 0,0,0,0],[6,0, 1,1,0,0],[6,1, 4,0,0,0],[6,3, 0,4,0,0]]\n",
+                1,
+            ),
+            (KIND, 1),
+            (
+                "children = [[7,0, 0,0,0,0],[7,0, 1,1,0,0],[7,1, 4,0,0,0],[7,3, 0,4,0,0]]\n",
+                1,
+            ),
+            (KIND, 1),
+            (
+                "children = [[8,0, 0,0,0,0],[8,0, 1,1,0,0],[8,1, 4,0,0,0],[8,3, 0,4,0,0]]\n",
+                1,
+            ),
+            (KIND, 1),
+            (
+                "children = [[9,0, 0,0,0,0],[9,0, 1,1,0,0],[9,1, 4,0,0,0],[9,3, 0,4,0,0]]\n",
+                1,
+            ),
+            (KIND, 1),
+            (
+                "children = [[10,0, 0,0,0,0],[10,0, 1,1,0,0],[10,1, 4,0,0,0],[10,3, 0,4,0,0]]\n",
+                1,
+            ),
+            (KIND, 1),
+            (
+                "children = [[11,0, 0,0,0,0],[11,0, 1,1,0,0],[11,1, 4,0,0,0],[11,3, 0,4,0,0]]\n",
+                1,
+            ),
+            (KIND, 1),
+            (
+                "children = [[12,0, 0,0,0,0],[12,0, 1,1,0,0],[12,1, 4,0,0,0],[12,3, 0,4,0,0]]\n",
+                1,
+            ),
+            (KIND, 1),
+            (
+                "children = [[13,0, 0,0,0,0],[13,0, 1,1,0,0],[13,1, 4,0,0,0],[13,3, 0,4,0,0]]\n",
+                1,
+            ),
+            (KIND, 1),
+            (
+                "children = [[14,0, 0,0,0,0],[14,0, 1,1,0,0],[14,1, 4,0,0,0],[14,3, 0,4,0,0]]\n",
+                1,
+            ),
+            (KIND, 1),
+            (
+                "children = [[15,0, 0,0,0,0],[15,0, 1,1,0,0],[15,1, 4,0,0,0],[15,3, 0,4,0,0]]\n",
+                1,
+            ),
+            (CHAIR, 1),
+        ],
+        "0 accepted order 4 kinds 16 types 1\n|",
     ),
 ];
 
-/// Runs the check over a file, and compares what comes of it.
-fn check<R: Abort + AllocGlobal>(
-    rt: &R,
-    file: &str,
-    code: u8,
-    text: &str,
-    note: &str,
-) -> Result<(), Fail> {
-    let alloc = rt.alloc();
-    let ended = told(alloc, "check rule=-", file, &SOUND)?;
-    let wanted = wanted(alloc, code, text, note)?;
-    assert_eq!(rt; ended.as_str(), wanted.as_str(), "{file}");
-    Ok(())
-}
-
-/// The same of a file that is refused.
-fn check_refused<R: Abort + AllocGlobal>(rt: &R, file: &str, cause: &str) -> Result<(), Fail> {
-    let note = format!(in rt.alloc(); "3 RuleRefused {cause}")?;
-    check(rt, file, 3, "", note.as_str())
-}
-
-/// Returns the chair's file with `count` kinds like the chair. Their children are of kind 0, or of the next
-/// kind. After the last kind, the next one is kind 0.
-fn like_chairs(alloc: Global, count: usize, of_next: bool) -> Result<String, AllocError> {
-    let mut file = format!(in alloc; "{HEAD}{TYPE}")?;
-    for kind in 1..=count {
-        let of = if of_next && kind < count { kind } else { 0 };
-        let kind = format!(in alloc; "[[kind]]\nvertices = [{VERTICES}]\nedges = [{EIGHT}]\n")?;
-        let children = format!(in alloc;
-            "children = [[{of},0, 0,0,0,0],[{of},0, 1,1,0,0],[{of},1, 4,0,0,0],[{of},3, 0,4,0,0]]\n"
-        )?;
-        file.push_str(kind.as_str())?;
-        file.push_str(children.as_str())?;
+/// Returns the file of these pieces, each repeated.
+fn file_of(alloc: Global, pieces: Pieces) -> Result<String, AllocError> {
+    let mut file = String::new(alloc);
+    for (piece, times) in pieces {
+        for _ in 0..*times {
+            file.push_str(piece)?;
+        }
     }
     Ok(file)
 }
 
-#[test]
-fn kinds_with_a_fault(rt: HostRuntime) -> Result<(), Fail> {
-    let alloc = rt.alloc();
-    for (vertices, edges, children, more, times, cause) in &KIND_ROWS {
-        let behind = format!(in alloc; ",{more}")?.repeat(alloc, *times)?;
-        let kind = format!(in alloc;
-            "[[kind]]\nvertices = [{vertices}]\nedges = [{edges}]\nchildren = [{children}{behind}]\n"
-        )?;
-        let file = format!(in alloc; "{HEAD}{TYPE}{kind}")?;
-        check_refused(&rt, file.as_str(), cause)?;
+/// Notes the first file of which `check` comes to something else.
+pub fn note_files(alloc: Global, wrong: &mut Wrong) {
+    for (row, (pieces, wanted)) in FILES.iter().enumerate() {
+        let is_right = match file_of(alloc, pieces) {
+            Ok(file) => comes_to(alloc, "check rule=-", file.as_str(), &SOUND, wanted),
+            Err(_) => false,
+        };
+        wrong.note("hostile files", row, is_right);
     }
-    Ok(())
-}
-
-#[test]
-fn no_kind(rt: HostRuntime) -> Result<(), Fail> {
-    let file = format!(in rt.alloc(); "{HEAD}kind = []\n{TYPE}")?;
-    check_refused(&rt, file.as_str(), "TooMany kinds")
-}
-
-#[test]
-fn two_types_with_one_mate(rt: HostRuntime) -> Result<(), Fail> {
-    let alloc = rt.alloc();
-    let kind = format!(in alloc;
-        "[[kind]]\nvertices = [{VERTICES}]\nedges = [{EIGHT}]\nchildren = [{CHILDREN}]\n"
-    )?;
-    let file = format!(in alloc; "{HEAD}{UNPAIRED}{UNPAIRED}{kind}")?;
-    check_refused(&rt, file.as_str(), "BadMate 0")
-}
-
-#[test]
-fn many_kinds(rt: HostRuntime) -> Result<(), Fail> {
-    let alloc = rt.alloc();
-    check_refused(&rt, like_chairs(alloc, 2, false)?.as_str(), "Unused 1")?;
-    check_refused(
-        &rt,
-        like_chairs(alloc, 17, false)?.as_str(),
-        "TooMany kinds",
-    )?;
-    let most = like_chairs(alloc, 16, true)?;
-    let accepted = "accepted order 4 kinds 16 types 1";
-    check(&rt, most.as_str(), 0, accepted, "")
 }

@@ -1,5 +1,5 @@
 //! Trials of the top call, `run`: what the program prints and notes, compared with values from outside.
-//! Streams work, or fail at a given call. There is no other code here.
+//! Streams work, or fail at a given call. The words of a call are also read alone. There is no other code here.
 #![tactic(auto)]
 
 #[cfg(test)]
@@ -21,4 +21,10 @@ mod rows;
 #[cfg(test)]
 mod scripts;
 #[cfg(test)]
+mod tables;
+#[cfg(test)]
 mod told;
+#[cfg(test)]
+mod words;
+#[cfg(test)]
+mod wrong;

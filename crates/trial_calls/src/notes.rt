@@ -1,4 +1,5 @@
 //! The note of each fault of a rule file, compared with the table of notes.
+use crate::wrong::Wrong;
 use call_notes::note::write_note;
 use call_notes::rule_fault::RuleFault;
 use call_notes::status::Status;
@@ -8,8 +9,8 @@ use rule_text::key::Key;
 use rule_text::place::Place;
 use rule_text::text_fault::TextFault;
 use std::alloc::Global;
-use std::test::Fail;
 use tile_io::mem_sink::MemSink;
+use tile_shape::no_memory::NoMemory;
 
 /// The faults of a rule, and the end of the note of each.
 static CHECK_NOTES: [(CheckFault, &str); 18] = [
@@ -96,25 +97,21 @@ static TEXT_NOTES: [(TextFault, &str); 6] = [
 ];
 
 /// Returns true if the note of a fault is the code of a refused rule, its name, and this text.
-fn is_noted(alloc: Global, fault: RuleFault, text: &str) -> Result<bool, Fail> {
+fn is_noted(alloc: Global, fault: RuleFault, text: &str) -> Result<bool, NoMemory> {
     let mut notes = MemSink::new(alloc, 640, 640, Vec::new(alloc))?;
     write_note(&mut notes, &Status::RuleRefused { fault });
     let wanted = format!(in alloc; "3 RuleRefused {text}\n")?;
     Ok(notes.taken() == wanted.as_bytes())
 }
 
-#[test]
-fn notes_of_refused_rules(rt: HostRuntime) -> Result<(), Fail> {
-    for (fault, text) in &CHECK_NOTES {
-        assert!(rt; is_noted(rt.alloc(), RuleFault::Check(*fault), text)?);
+/// Notes the first fault whose note is another.
+pub fn note_notes(alloc: Global, wrong: &mut Wrong) {
+    for (row, (fault, text)) in CHECK_NOTES.iter().enumerate() {
+        let noted = is_noted(alloc, RuleFault::Check(*fault), text);
+        wrong.note("check notes", row, noted.unwrap_or(false));
     }
-    Ok(())
-}
-
-#[test]
-fn notes_of_refused_texts(rt: HostRuntime) -> Result<(), Fail> {
-    for (fault, text) in &TEXT_NOTES {
-        assert!(rt; is_noted(rt.alloc(), RuleFault::Text(*fault), text)?);
+    for (row, (fault, text)) in TEXT_NOTES.iter().enumerate() {
+        let noted = is_noted(alloc, RuleFault::Text(*fault), text);
+        wrong.note("text notes", row, noted.unwrap_or(false));
     }
-    Ok(())
 }

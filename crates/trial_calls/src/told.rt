@@ -1,50 +1,14 @@
 //! What comes of a call of the top call, as a text, with streams that may fail.
-ghost use Rattle.std.specs.Prelude.{Some};
-
-use crate::calls::{one_list, words_of};
-use std::alloc::Global;
-use std::test::Fail;
+use layer_api::layer::Layer;
+use layer_list::list_layer::ListLayer;
+use std::alloc::{AllocError, Global};
 use tile_app::run::run;
-use tile_io::failed::Failed;
+use tile_io::mem_sink::MemSink;
 use tile_io::mem_source::MemSource;
-use tile_io::sink::Sink;
-
-/// Takes a byte a call, and fails once its good calls are used up.
-#[derive(Drop)]
-struct Trickle {
-    bytes: Vec<u8>,
-    good_calls: usize,
-    faults: u64,
-}
-
-impl Trickle {
-    fn new(alloc: Global, good_calls: usize) -> Trickle {
-        Trickle {
-            bytes: Vec::new(alloc),
-            good_calls,
-            faults: 0,
-        }
-    }
-}
-
-impl Sink for Trickle {
-    ghost taken = { λ sink. Some sink.bytes.items };
-
-    ghost faults = { λ sink. sink.faults };
-
-    fn write(&mut self, buf: &[u8]) -> Result<usize, Failed> {
-        let count = buf.len().min(1);
-        if self.good_calls == 0 || self.bytes.extend_from_slice(&buf[..count]).is_err() {
-            self.faults = self.faults.saturating_add(1);
-            return Err(Failed);
-        }
-        self.good_calls -= 1;
-        Ok(count)
-    }
-}
+use tile_shape::no_memory::NoMemory;
 
 /// Which calls fail: the read of this number, counted from 1, and all writes and notes after these numbers.
-/// If `read` is 0, no read fails.
+/// If `read` is 0, no read fails. Each write takes a byte.
 #[derive(Clone, Copy)]
 pub struct Failing {
     pub read: u64,
@@ -59,6 +23,24 @@ pub const SOUND: Failing = Failing {
     notes: 100_000,
 };
 
+/// The words of a line, parted by blanks; an empty line has none.
+pub fn words_of(alloc: Global, line: &str) -> Result<Vec<String>, AllocError> {
+    let mut words = Vec::new(alloc);
+    if !line.is_empty() {
+        for word in line.split(' ') {
+            words.push(word.to_string(alloc)?)?;
+        }
+    }
+    Ok(words)
+}
+
+/// A layer that lists tiles, alone.
+fn one_list(alloc: Global) -> Result<Vec<Box<dyn Layer>>, NoMemory> {
+    let mut layers: Vec<Box<dyn Layer>> = Vec::new(alloc);
+    layers.push(Box::new(alloc, ListLayer::new(alloc))?)?;
+    Ok(layers)
+}
+
 /// Runs a line of arguments over a source, with a layer that lists tiles. Returns the exit code, the output,
 /// and after a bar the notes.
 pub fn told_over(
@@ -66,19 +48,19 @@ pub fn told_over(
     line: &str,
     source: &mut MemSource,
     failing: &Failing,
-) -> Result<String, Fail> {
+) -> Result<String, NoMemory> {
     let words = words_of(alloc, line)?;
-    let mut sink = Trickle::new(alloc, failing.writes);
-    let mut notes = Trickle::new(alloc, failing.notes);
+    let mut sink = MemSink::new(alloc, failing.writes, 1, Vec::new(alloc))?;
+    let mut notes = MemSink::new(alloc, failing.notes, 1, Vec::new(alloc))?;
     let layers = one_list(alloc)?;
     let status = run(alloc, &words, source, &mut sink, &mut notes, layers);
-    let printed = str::from_utf8(sink.bytes.as_slice()).unwrap_or("?");
-    let noted = str::from_utf8(notes.bytes.as_slice()).unwrap_or("?");
+    let printed = str::from_utf8(sink.taken()).unwrap_or("?");
+    let noted = str::from_utf8(notes.taken()).unwrap_or("?");
     Ok(format!(in alloc; "{} {printed}|{noted}", status.code())?)
 }
 
 /// Like [`told_over`], over a source of these bytes that gives 16 a call.
-pub fn told(alloc: Global, line: &str, file: &str, failing: &Failing) -> Result<String, Fail> {
+pub fn told(alloc: Global, line: &str, file: &str, failing: &Failing) -> Result<String, NoMemory> {
     let bytes = file.as_bytes().to_vec(alloc)?;
     let mut source = MemSource::new(bytes, 16, vec![in alloc; failing.read]?);
     told_over(alloc, line, &mut source, failing)

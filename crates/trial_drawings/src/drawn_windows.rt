@@ -1,13 +1,14 @@
 //! Windows compared with lists of all tiles of the frame. Some windows are random. Others have vertices and
 //! midpoints of edges as centres: their sides run through vertices, along edges, and through corners of tiles
 //! that they only touch.
-use crate::listed::check_window;
+use crate::listed::{Outcome, outcome_of};
+use crate::wrong::Wrong;
 use builtin_rules::name::Name;
 use plane_geom::window::Window;
-use std::process::Abort;
-use std::test::Fail;
+use std::alloc::Global;
 use tile_place::machine::Machine;
 use tile_shape::address::Address;
+use tile_shape::no_memory::NoMemory;
 use trial_plain_tiles::built_in::machine_of;
 use trial_plain_tiles::drawn_tile::drawn_tiles;
 use trial_plain_tiles::draws::Draws;
@@ -23,16 +24,33 @@ const RULES: [(Name, &str); 5] = [
     (Name::HalfHex, "halfhex"),
 ];
 
-// Draws 50 windows that can be listed, from bases of depth 0 to 3: how many tiles they have.
-fn check_drawn<R: Abort + AllocGlobal>(
-    rt: &R,
-    rule: &str,
-    machine: &Machine,
-) -> Result<usize, Fail> {
+/// How many windows are alike, how many tiles they have, and how many windows are unlike.
+#[derive(Clone, Copy, Default)]
+struct Counts {
+    windows: u32,
+    tiles: usize,
+    unlike: u32,
+}
+
+impl Counts {
+    /// Counts a window; one that can't be tried is unlike.
+    fn count(&mut self, outcome: Result<Outcome, NoMemory>) {
+        match outcome {
+            Ok(Outcome::Alike(tiles)) => {
+                self.windows = self.windows.saturating_add(1);
+                self.tiles = self.tiles.saturating_add(tiles);
+            }
+            Ok(Outcome::TooMany) => (),
+            _ => self.unlike = self.unlike.saturating_add(1),
+        }
+    }
+}
+
+/// Draws 50 windows that can be listed, from bases of depth 0 to 3.
+fn drawn(alloc: Global, rule: &str, machine: &Machine) -> Counts {
     let order = machine.checked().order();
     let mut draws = Draws { state: 11 };
-    let mut number: u32 = 0;
-    let mut tiles: usize = 0;
+    let mut counts = Counts::default();
     for _ in 0..2000 {
         let depth = draws.below(4);
         let any = draws.below(2) == 0;
@@ -40,69 +58,85 @@ fn check_drawn<R: Abort + AllocGlobal>(
         let base = draws.address(machine, depth, any);
         let window = draws.window(order, 2);
         if let Some(base) = base {
-            if let Some(more) = check_window(rt, rule, machine, seed, &base, &window)? {
-                tiles = tiles.saturating_add(more);
-                number = number.saturating_add(1);
-                if number == 50 {
-                    break;
-                }
-            }
+            counts.count(outcome_of(alloc, rule, machine, seed, &base, &window));
+        }
+        if counts.windows == 50 {
+            break;
         }
     }
-    assert_eq!(rt; number, 50, "{rule}");
-    Ok(tiles)
+    counts
 }
 
-/// 50 windows of each rule.
-#[test]
-fn drawn_windows(rt: HostRuntime) -> Result<(), Fail> {
-    for (name, rule) in RULES {
-        let machine = machine_of(rt.alloc(), name)?;
-        let tiles = check_drawn(&rt, rule, &machine)?;
-        assert!(&rt; tiles >= 200, "{rule} {tiles}");
+/// Notes the first rule of which not each of 50 windows is alike, or which have few tiles.
+fn note_drawn(alloc: Global, wrong: &mut Wrong) {
+    for (name, rule) in &RULES {
+        let counts = match machine_of(alloc, *name) {
+            Ok(machine) => drawn(alloc, rule, &machine),
+            Err(_) => Counts::default(),
+        };
+        let Counts {
+            windows,
+            tiles,
+            unlike,
+        } = counts;
+        wrong.note(rule, tiles, windows == 50 && unlike == 0 && tiles >= 200);
     }
-    Ok(())
 }
 
-// Draws windows around the vertices, the midpoints of edges and points inside the tiles of a supertile of
-// depth 2, in the frame of one of its tiles. Returns how many of these windows can be listed.
-fn check_touching<R: Abort + AllocGlobal>(
-    rt: &R,
+/// Draws windows around the vertices, the midpoints of edges and points inside the tiles of a supertile of
+/// depth 2, in the frame of one of its tiles, up to 30 that can be listed.
+fn touching(
+    alloc: Global,
     rule: &str,
     machine: &Machine,
     base: &Address,
-) -> Result<u32, Fail> {
-    let alloc = rt.alloc();
+) -> Result<Counts, NoMemory> {
     let order = machine.checked().order();
     let near = tiles(alloc, machine, base.kind, 2, &Default::default())?;
     let near = drawn_tiles(alloc, machine, near)?;
     let points = points(alloc, order, near.as_slice())?;
-    let mut number: u32 = 0;
+    let mut counts = Counts::default();
     for (place, point) in points.as_slice().iter().enumerate() {
         let window = Window {
             centre: *point,
             w: if place & 1 == 0 { 1 } else { 2 },
             h: if place & 2 == 0 { 1 } else { 2 },
         };
-        if check_window(rt, rule, machine, 42, base, &window)?.is_some() {
-            number = number.saturating_add(1);
-            if number == 30 {
-                break;
-            }
+        counts.count(outcome_of(alloc, rule, machine, 42, base, &window));
+        if counts.windows == 30 {
+            break;
         }
     }
-    Ok(number)
+    Ok(counts)
 }
 
-/// Windows that touch what they don't meet.
-#[test]
-fn touching_windows(rt: HostRuntime) -> Result<(), Fail> {
-    for (name, rule) in RULES {
-        let machine = machine_of(rt.alloc(), name)?;
-        let mut draws = Draws { state: 3 };
-        let base = draws.address(&machine, 2, true).unwrap_or(Address::new(0));
-        let number = check_touching(&rt, rule, &machine, &base)?;
-        assert!(&rt; number >= 10, "{rule} {number}");
+/// The same for a base that is drawn.
+fn touching_drawn(alloc: Global, rule: &str, name: Name) -> Result<Counts, NoMemory> {
+    let machine = machine_of(alloc, name)?;
+    let mut draws = Draws { state: 3 };
+    let base = draws.address(&machine, 2, true).unwrap_or(Address::new(0));
+    touching(alloc, rule, &machine, &base)
+}
+
+/// Notes the first rule of which a window that touches what it doesn't meet is unlike, or which has few.
+fn note_touching(alloc: Global, wrong: &mut Wrong) {
+    for (name, rule) in &RULES {
+        let counts = touching_drawn(alloc, rule, *name).unwrap_or(Counts::default());
+        let is_right = counts.windows >= 10 && counts.unlike == 0;
+        wrong.note(rule, counts.tiles, is_right);
     }
-    Ok(())
+}
+
+#[test]
+fn drawn_windows(rt: HostRuntime) {
+    let mut wrong = Wrong::default();
+    note_drawn(rt.alloc(), &mut wrong);
+    assert_eq!(rt; wrong.name, "", "{} tiles", wrong.row);
+}
+
+#[test]
+fn touching_windows(rt: HostRuntime) {
+    let mut wrong = Wrong::default();
+    note_touching(rt.alloc(), &mut wrong);
+    assert_eq!(rt; wrong.name, "", "{} tiles", wrong.row);
 }

@@ -1,11 +1,13 @@
 //! `drill`: its windows against those that `draw` counts, each made here of the generator's words.
-use crate::calls::{layers_of, run_line};
-use layer_api::format::Format;
+use crate::calls::text_of;
+use crate::wrong::Wrong;
 use rand_core::utils::NextWord;
 use rand_pcg::Pcg32;
-use std::alloc::Global;
-use std::process::Abort;
-use std::test::Fail;
+use std::alloc::{AllocError, Global};
+use tile_shape::no_memory::NoMemory;
+
+/// The room for what is printed.
+const ROOM: usize = 16_000_000;
 
 /// The built-in rules.
 const RULES: [&str; 5] = ["chair", "p2", "p3", "ab", "halfhex"];
@@ -16,22 +18,14 @@ fn coefficient(words: &mut Pcg32) -> i64 {
 }
 
 // The next window as words for `draw`.
-fn window(alloc: Global, words: &mut Pcg32) -> Result<String, Fail> {
+fn window(alloc: Global, words: &mut Pcg32) -> Result<String, AllocError> {
     let a0 = coefficient(words);
     let a1 = coefficient(words);
     let a2 = coefficient(words);
     let a3 = coefficient(words);
     let w = words.next_word() % 64 + 1;
     let h = words.next_word() % 64 + 1;
-    Ok(format!(in alloc; "at={a0},{a1},{a2},{a3} half={w},{h}")?)
-}
-
-// What a line prints; nothing where it is refused.
-fn printed<R: Abort + AllocGlobal>(rt: &R, line: &str) -> Result<String, Fail> {
-    let alloc = rt.alloc();
-    let layers = layers_of(alloc, &[Format::List, Format::Census])?;
-    let (code, text) = run_line(alloc, line, layers, 16_000_000)?;
-    Ok(if code == 0 { text } else { String::new(alloc) })
+    format!(in alloc; "at={a0},{a1},{a2},{a3} half={w},{h}")
 }
 
 // Returns the number after the last blank of a text, without its last newline.
@@ -51,13 +45,7 @@ fn depth(text: &str) -> u64 {
 }
 
 // Returns the five lines of the windows of a seed, by drawing each of them.
-fn summary<R: Abort + AllocGlobal>(
-    rt: &R,
-    rule: &str,
-    seed: u64,
-    count: u64,
-) -> Result<String, Fail> {
-    let alloc = rt.alloc();
+fn summary(alloc: Global, rule: &str, seed: u64, count: u64) -> Result<String, NoMemory> {
     let mut words = Pcg32::new(seed, 54);
     let mut tiles = 0u64;
     let mut largest = 0;
@@ -68,7 +56,7 @@ fn summary<R: Abort + AllocGlobal>(
         let line = format!(in alloc;
             "draw rule={rule} seed={seed} addr=0: {window} layers=list,census"
         )?;
-        let text = printed(rt, line.as_str())?;
+        let text = text_of(alloc, line.as_str(), ROOM)?;
         if text.is_empty() {
             refused = refused.saturating_add(1);
         } else {
@@ -83,58 +71,54 @@ fn summary<R: Abort + AllocGlobal>(
     )?)
 }
 
-#[test]
-fn ten_windows(rt: HostRuntime) -> Result<(), Fail> {
-    for rule in &RULES {
-        let line = format!(in rt.alloc(); "drill rule={rule} seed=42 n=10")?;
-        let wanted = summary(&rt, rule, 42, 10)?;
-        assert_eq!(rt; printed(&rt, line.as_str())?, wanted, "{rule}");
-    }
-    Ok(())
+/// Returns true if the summary of ten windows is that of drawing each of them.
+fn is_summed(alloc: Global, rule: &str) -> Result<bool, NoMemory> {
+    let line = format!(in alloc; "drill rule={rule} seed=42 n=10")?;
+    let wanted = summary(alloc, rule, 42, 10)?;
+    Ok(text_of(alloc, line.as_str(), ROOM)?.as_str() == wanted.as_str())
 }
 
-// The window was worked out by hand.
-#[test]
-fn one_window(rt: HostRuntime) -> Result<(), Fail> {
-    let alloc = rt.alloc();
+/// Returns true if one window is summed up right. It was worked out by hand.
+fn is_one(alloc: Global) -> Result<bool, NoMemory> {
     let draw = "draw rule=chair seed=42 addr=0: at=23,-23,16,-13 half=12,47 layers=census";
-    let number = last_number(printed(&rt, draw)?.as_str());
-    let text = printed(&rt, "drill rule=chair seed=42 n=1")?;
+    let number = last_number(text_of(alloc, draw, ROOM)?.as_str());
+    let text = text_of(alloc, "drill rule=chair seed=42 n=1", ROOM)?;
     let start = format!(in alloc; "windows 1\ntiles {number}\nlargest {number}\ndepth ")?;
-    assert!(rt; number > 0 && text.as_str().starts_with(start.as_str()));
-    assert!(rt; text.as_str().ends_with("\nrefused 0\n"));
-    Ok(())
+    Ok(
+        number > 0
+            && text.as_str().starts_with(start.as_str())
+            && text.as_str().ends_with("\nrefused 0\n"),
+    )
 }
 
-// Two hundred windows, twice.
-fn check_twice<R: Abort + AllocGlobal>(rt: &R, line: &str) -> Result<(), Fail> {
-    let text = printed(rt, line)?;
-    assert!(rt; text.as_str().starts_with("windows 200\n"), "{line}");
-    assert_eq!(rt; printed(rt, line)?, text, "{line}");
-    Ok(())
+/// Returns true if two hundred windows are summed up alike, twice.
+fn is_alike(alloc: Global, rule: &str) -> Result<bool, NoMemory> {
+    let line = format!(in alloc; "drill rule={rule} seed=42 n=200")?;
+    let text = text_of(alloc, line.as_str(), ROOM)?;
+    let again = text_of(alloc, line.as_str(), ROOM)?;
+    Ok(text.as_str().starts_with("windows 200\n") && again.as_str() == text.as_str())
 }
 
-#[test]
-fn chairs_twice(rt: HostRuntime) -> Result<(), Fail> {
-    check_twice(&rt, "drill rule=chair seed=42 n=200")
-}
-
-#[test]
-fn kites_twice(rt: HostRuntime) -> Result<(), Fail> {
-    check_twice(&rt, "drill rule=p2 seed=42 n=200")
-}
-
-#[test]
-fn rhombs_twice(rt: HostRuntime) -> Result<(), Fail> {
-    check_twice(&rt, "drill rule=p3 seed=42 n=200")
+/// The first rule whose windows are summed up otherwise.
+fn first_wrong(alloc: Global) -> Wrong {
+    let mut wrong = Wrong::default();
+    for rule in &RULES {
+        wrong.note(rule, 10, is_summed(alloc, rule).unwrap_or(false));
+    }
+    wrong.note("one window", 1, is_one(alloc).unwrap_or(false));
+    wrong
 }
 
 #[test]
-fn squares_twice(rt: HostRuntime) -> Result<(), Fail> {
-    check_twice(&rt, "drill rule=ab seed=42 n=200")
+fn few_windows(rt: HostRuntime) {
+    let wrong = first_wrong(rt.alloc());
+    assert_eq!(rt; wrong.name, "", "{} windows", wrong.row);
 }
 
 #[test]
-fn half_hexes_twice(rt: HostRuntime) -> Result<(), Fail> {
-    check_twice(&rt, "drill rule=halfhex seed=42 n=200")
+fn many_windows_twice(rt: HostRuntime) {
+    for rule in &RULES {
+        let is_right = is_alike(rt.alloc(), rule).unwrap_or(false);
+        assert!(rt; is_right, "{rule}");
+    }
 }

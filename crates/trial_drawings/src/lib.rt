@@ -12,10 +12,16 @@ mod drawn_windows;
 #[cfg(test)]
 mod drilled;
 #[cfg(test)]
+mod growth;
+#[cfg(test)]
 mod listed;
 #[cfg(test)]
 mod refusing;
 #[cfg(test)]
 mod rows;
 #[cfg(test)]
+mod tables;
+#[cfg(test)]
 mod wholes;
+#[cfg(test)]
+mod wrong;

@@ -1,12 +1,11 @@
 //! The words of a window, and the texts of the tiles that are listed for it.
-use crate::calls::{ALL, check_call, layers_of};
+use crate::calls::{ALL, comes_to, layers_of};
 use plane_geom::window::Window;
 use std::alloc::{AllocError, Global};
-use std::process::Abort;
-use std::test::Fail;
 use tile_place::machine::Machine;
 use tile_place::placed_tile::PlacedTile;
 use tile_shape::address::Address;
+use tile_shape::no_memory::NoMemory;
 use trial_plain_tiles::least_frame::least_frame;
 use trial_plain_tiles::window_tiles::listed;
 
@@ -27,9 +26,9 @@ fn put_address(text: &mut String, addr: &Address) -> Result<(), AllocError> {
     Ok(())
 }
 
-// The line of each tile, and then how many there are of each kind and in all.
+// What is drawn: the line of each tile, and then how many there are of each kind and in all.
 fn text_of(alloc: Global, machine: &Machine, tiles: &[PlacedTile]) -> Result<String, AllocError> {
-    let mut text = String::new(alloc);
+    let mut text = String::from_str(alloc, "0 ")?;
     for tile in tiles {
         let kind = tile.kind;
         let turn = tile.motion.turn;
@@ -43,7 +42,7 @@ fn text_of(alloc: Global, machine: &Machine, tiles: &[PlacedTile]) -> Result<Str
         write!(text, "{kind} {count}\n")?;
     }
     let count = tiles.len();
-    write!(text, "all {count}\n")?;
+    write!(text, "all {count}\n|")?;
     Ok(text)
 }
 
@@ -65,25 +64,36 @@ fn words(
     Ok(line)
 }
 
-// Draws a window in the frame of a base, and compares the texts with the listed tiles. Returns how many there
-// are, or None if the frame has too many tiles to list.
-pub fn check_window<R: Abort + AllocGlobal>(
-    rt: &R,
+/// What comes of a window, compared with the listed tiles: how many there are, if both agree; or the frame
+/// has too many tiles to list.
+#[derive(Clone, Copy, PartialEq, Eq)]
+pub enum Outcome {
+    Alike(usize),
+    Unlike,
+    TooMany,
+}
+
+/// Draws a window in the frame of a base, and compares the texts with the listed tiles.
+pub fn outcome_of(
+    alloc: Global,
     rule: &str,
     machine: &Machine,
     seed: u64,
     base: &Address,
     window: &Window,
-) -> Result<Option<usize>, Fail> {
-    let alloc = rt.alloc();
+) -> Result<Outcome, NoMemory> {
     let frame = match least_frame(alloc, machine, base, seed, window, MOST_TILES)? {
         Some(frame) => frame,
-        None => return Ok(None),
+        None => return Ok(Outcome::TooMany),
     };
     let tiles = listed(alloc, machine, &frame, window)?;
-    let text = text_of(alloc, machine, tiles.as_slice())?;
+    let wanted = text_of(alloc, machine, tiles.as_slice())?;
     let line = words(alloc, rule, seed, base, window)?;
     let layers = layers_of(alloc, &ALL)?;
-    check_call(rt, line.as_str(), layers, 0, text.as_str(), "")?;
-    Ok(Some(tiles.len()))
+    let is_alike = comes_to(alloc, line.as_str(), layers, wanted.as_str());
+    Ok(if is_alike {
+        Outcome::Alike(tiles.len())
+    } else {
+        Outcome::Unlike
+    })
 }

@@ -1,61 +1,74 @@
 //! Layers that refuse one of their calls, and layers counted as they are dropped.
-use crate::calls::check_call;
-use crate::rows::CHAIRS_LIST;
-use layer_api::layer::Layer;
+use crate::calls::{Layers, comes_to};
+use crate::wrong::Wrong;
 use layer_list::census_layer::CensusLayer;
 use layer_list::list_layer::ListLayer;
 use layer_svg::svg_layer::SvgLayer;
+use std::alloc::Global;
 use std::rc::Rc;
-use std::test::Fail;
+use tile_shape::no_memory::NoMemory;
 use trial_refusing_layer::counted::Counted;
 use trial_refusing_layer::refusing::Refusing;
 
-/// Two tiles: the first `put`, the second, the end, or no call is refused. Each layer is dropped by the time
-/// the call ends, even one that is not named.
-#[test]
-fn each_call_refused(rt: HostRuntime) -> Result<(), Fail> {
-    let alloc = rt.alloc();
-    let line = "draw rule=chair seed=42 addr=0: at=1,1,0,0 half=2,1 layers=census,list";
-    let token = Rc::new(alloc, 0u8)?;
-    for refused in 1..5u32 {
-        let mut layers: Vec<Box<dyn Layer>> = Vec::new(alloc);
-        let census = Counted::new(CensusLayer::new(alloc), token.clone()?);
-        layers.push(Box::new(alloc, census)?)?;
-        let refusing = Refusing::new(ListLayer::new(alloc), refused);
-        layers.push(Box::new(alloc, Counted::new(refusing, token.clone()?))?)?;
-        let picture = Counted::new(SvgLayer::new(alloc), token.clone()?);
-        layers.push(Box::new(alloc, picture)?)?;
-        assert_eq!(&rt; Rc::strong_count(&token), 4);
-        if refused == 4 {
-            let text = format!(in alloc; "0 2\nall 2\n{CHAIRS_LIST}")?;
-            check_call(&rt, line, layers, 0, text.as_str(), "")?;
-        } else {
-            check_call(&rt, line, layers, 11, "", "11 NoMemory\n")?;
-        }
-        assert_eq!(&rt; Rc::strong_count(&token), 1);
-    }
-    Ok(())
+/// A layer of each format, counted by a token. The one that lists refuses its call of this number.
+fn counted(alloc: Global, token: &Rc<u8>, refused: u32) -> Result<Layers, NoMemory> {
+    let mut layers: Layers = Vec::new(alloc);
+    let census = Counted::new(CensusLayer::new(alloc), token.clone()?);
+    layers.push(Box::new(alloc, census)?)?;
+    let refusing = Refusing::new(ListLayer::new(alloc), refused);
+    layers.push(Box::new(alloc, Counted::new(refusing, token.clone()?))?)?;
+    let picture = Counted::new(SvgLayer::new(alloc), token.clone()?);
+    layers.push(Box::new(alloc, picture)?)?;
+    Ok(layers)
 }
 
-/// The calls refused by the first and by the second of two layers of a format, 0 for none; then the status,
-/// the text and the note.
-const PAIRS: [(u32, u32, u8, &str, &str); 2] = [
-    (1, 0, 11, "", "11 NoMemory\n"),
-    (0, 1, 0, CHAIRS_LIST, ""),
+/// The number of the call that is refused, and what two tiles come to: the first `put`, the second, the end,
+/// or no call is refused.
+static CALLS: [(u32, &str); 4] = [
+    (1, "11 |11 NoMemory\n"),
+    (2, "11 |11 NoMemory\n"),
+    (3, "11 |11 NoMemory\n"),
+    (4, "0 0 2\nall 2\n0 0 0,0,0,0 0:3/0\n0 1 3,1,0,0 0:1/0\n|"),
 ];
 
-/// Of two layers of a format the first draws, and the second isn't called.
-#[test]
-fn first_of_two(rt: HostRuntime) -> Result<(), Fail> {
-    let alloc = rt.alloc();
-    let line = "draw rule=chair seed=42 addr=0: at=1,1,0,0 half=2,1 layers=list";
-    for (first, second, code, text, note) in &PAIRS {
-        let mut layers: Vec<Box<dyn Layer>> = Vec::new(alloc);
-        for refused in &[*first, *second] {
-            let layer = Refusing::new(ListLayer::new(alloc), *refused);
-            layers.push(Box::new(alloc, layer)?)?;
-        }
-        check_call(&rt, line, layers, *code, text, note)?;
+/// Returns true if a refused call comes to this, and each layer is dropped by then, even one that is not
+/// named.
+fn is_refused(alloc: Global, refused: u32, wanted: &str) -> Result<bool, NoMemory> {
+    let line = "draw rule=chair seed=42 addr=0: at=1,1,0,0 half=2,1 layers=census,list";
+    let token = Rc::new(alloc, 0u8)?;
+    let layers = counted(alloc, &token, refused)?;
+    let count = Rc::strong_count(&token);
+    let is_right = comes_to(alloc, line, layers, wanted);
+    Ok(count == 4 && is_right && Rc::strong_count(&token) == 1)
+}
+
+/// The calls refused by the first and by the second of two layers of a format, 0 for none; and the outcome.
+/// The first draws, and the second isn't called.
+static PAIRS: [(u32, u32, &str); 2] = [
+    (1, 0, "11 |11 NoMemory\n"),
+    (0, 1, "0 0 0 0,0,0,0 0:3/0\n0 1 3,1,0,0 0:1/0\n|"),
+];
+
+/// Two layers that list, each of which refuses its call of this number.
+fn pair(alloc: Global, first: u32, second: u32) -> Result<Layers, NoMemory> {
+    let mut layers: Layers = Vec::new(alloc);
+    layers.push(Box::new(alloc, Refusing::new(ListLayer::new(alloc), first))?)?;
+    layers.push(Box::new(alloc, Refusing::new(ListLayer::new(alloc), second))?)?;
+    Ok(layers)
+}
+
+/// Notes the first refused call that comes out otherwise.
+pub fn note_refused(alloc: Global, wrong: &mut Wrong) {
+    for (row, (refused, wanted)) in CALLS.iter().enumerate() {
+        let is_right = is_refused(alloc, *refused, wanted).unwrap_or(false);
+        wrong.note("refused calls", row, is_right);
     }
-    Ok(())
+    let line = "draw rule=chair seed=42 addr=0: at=1,1,0,0 half=2,1 layers=list";
+    for (row, (first, second, wanted)) in PAIRS.iter().enumerate() {
+        let is_right = match pair(alloc, *first, *second) {
+            Ok(layers) => comes_to(alloc, line, layers, wanted),
+            Err(_) => false,
+        };
+        wrong.note("first of two", row, is_right);
+    }
 }

@@ -14,7 +14,6 @@ use rule_model::rule::Rule;
 use rule_model::type_row::TypeRow;
 use rule_text::reading::{LONGEST_FILE, read_rule};
 use std::alloc::{AllocError, Global};
-use std::test::Fail;
 
 /// The chair.
 pub const CHAIR: &str = "format = 1
@@ -98,26 +97,36 @@ pub fn chair(alloc: Global, edition: Edition) -> Result<Rule, AllocError>
 }
 
 /// Returns true if the text is read to the chair.
-pub fn is_read_to_chair(alloc: Global, text: &str) -> Result<bool, Fail> {
-    if text.len() > LONGEST_FILE {
-        return Ok(false);
-    }
-    Ok(is_chair(&read_rule(alloc, text.as_bytes())?))
+pub fn is_read_to_chair(alloc: Global, text: &str) -> bool {
+    text.len() <= LONGEST_FILE
+        && match read_rule(alloc, text.as_bytes()) {
+            Ok(rule) => is_chair(&rule),
+            Err(_) => false,
+        }
+}
+
+/// Returns true if the row is the chair's edge type.
+fn is_type(row: &TypeRow) -> bool {
+    row.mate == 0 && row.parts.as_slice() == [0, 0].as_slice()
+}
+
+/// Returns true if the row is the chair's kind.
+fn is_kind(row: &KindRow) -> bool {
+    row.vertices.as_slice() == VERTICES.as_slice()
+        && row.edges.as_slice() == [0u8; 8].as_slice()
+        && row.children.as_slice() == CHILDREN.as_slice()
 }
 
 /// Returns true if the rule is the chair.
 pub fn is_chair(rule: &Rule) -> bool {
-    if rule.types.len() != 1 || rule.kinds.len() != 1 {
-        return false;
+    match (rule.types.as_slice(), rule.kinds.as_slice()) {
+        ([row], [kind]) => {
+            rule.order == Order::Four
+                && rule.factor.c == [2, 0, 0, 0]
+                && rule.glue.is_empty()
+                && is_type(row)
+                && is_kind(kind)
+        }
+        _ => false,
     }
-    let row = &rule.types[0];
-    let kind = &rule.kinds[0];
-    rule.order == Order::Four
-        && rule.factor.c == [2, 0, 0, 0]
-        && rule.glue.is_empty()
-        && row.mate == 0
-        && row.parts.as_slice() == [0, 0].as_slice()
-        && kind.vertices.as_slice() == VERTICES.as_slice()
-        && kind.edges.as_slice() == [0u8; 8].as_slice()
-        && kind.children.as_slice() == CHILDREN.as_slice()
 }

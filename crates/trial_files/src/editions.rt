@@ -1,13 +1,13 @@
 //! Files of both formats, and the rules of both editions that are written.
-use crate::chair_rule::{chair, is_chair, is_read_to_chair};
+use crate::chair_rule::{CHAIR, chair, is_chair, is_read_to_chair};
+use crate::wrong::note;
 use cyclo_points::order::Order;
 use rule_model::edition::Edition;
 use rule_model::rule::Rule;
 use rule_text::reading::{LONGEST_FILE, read_rule};
+use rule_text::text_fault::TextFault;
 use rule_text::writing::{write_rule, written_and_read};
-use std::alloc::Global;
-use std::process::Abort;
-use std::test::Fail;
+use std::alloc::{AllocError, Global};
 
 /// The half square cut by a factor that turns.
 const HALF_SQUARE: &str = "format = 2
@@ -29,62 +29,218 @@ edges = [0, 1, 0]
 children = [[0,3, 0,1,0,0], [0,2, 0,1,0,0]]
 ";
 
-/// A piece of the file, its replacement, and the edition and the order that are read.
-static READ: [(&str, &str, Edition, Order); 6] = [
-    ("format = 2", "format = 2", Edition::Two, Order::Four),
-    ("format = 2", "format = 1", Edition::One, Order::Four),
-    ("order = 4", "order = 6", Edition::Two, Order::Six),
-    ("order = 4", "order = 0x6", Edition::Two, Order::Six),
-    ("order = 4", "order = 8", Edition::Two, Order::Eight),
-    ("order = 4", "order = 10", Edition::Two, Order::Ten),
+/// A file, a piece of it, its replacement, and the edition, the order and the factor that are read, with how
+/// many types and kinds there are.
+type Read = (
+    &'static str,
+    &'static str,
+    &'static str,
+    Edition,
+    Order,
+    [i64; 4],
+    usize,
+    usize,
+);
+
+/// The factors of the half square and of the chair.
+const TURNING: [i64; 4] = [1, 1, 0, 0];
+
+const TWO: [i64; 4] = [2, 0, 0, 0];
+
+static READ: [Read; 14] = [
+    (
+        HALF_SQUARE,
+        "format = 2",
+        "format = 2",
+        Edition::Two,
+        Order::Four,
+        TURNING,
+        2,
+        1,
+    ),
+    (
+        HALF_SQUARE,
+        "format = 2",
+        "format = 1",
+        Edition::One,
+        Order::Four,
+        TURNING,
+        2,
+        1,
+    ),
+    (
+        HALF_SQUARE,
+        "order = 4",
+        "order = 6",
+        Edition::Two,
+        Order::Six,
+        TURNING,
+        2,
+        1,
+    ),
+    (
+        HALF_SQUARE,
+        "order = 4",
+        "order = 0x6",
+        Edition::Two,
+        Order::Six,
+        TURNING,
+        2,
+        1,
+    ),
+    (
+        HALF_SQUARE,
+        "order = 4",
+        "order = 8",
+        Edition::Two,
+        Order::Eight,
+        TURNING,
+        2,
+        1,
+    ),
+    (
+        HALF_SQUARE,
+        "order = 4",
+        "order = 10",
+        Edition::Two,
+        Order::Ten,
+        TURNING,
+        2,
+        1,
+    ),
+    (
+        CHAIR,
+        "order = 4",
+        "order = 4",
+        Edition::One,
+        Order::Four,
+        TWO,
+        1,
+        1,
+    ),
+    (
+        CHAIR,
+        "order = 4",
+        "order = +4",
+        Edition::One,
+        Order::Four,
+        TWO,
+        1,
+        1,
+    ),
+    (
+        CHAIR,
+        "order = 4",
+        "order = 0x8",
+        Edition::One,
+        Order::Eight,
+        TWO,
+        1,
+        1,
+    ),
+    (
+        CHAIR,
+        "order = 4",
+        "order = 0b1000",
+        Edition::One,
+        Order::Eight,
+        TWO,
+        1,
+        1,
+    ),
+    (
+        CHAIR,
+        "order = 4",
+        "order = +10",
+        Edition::One,
+        Order::Ten,
+        TWO,
+        1,
+        1,
+    ),
+    (
+        CHAIR,
+        "order = 4",
+        "order = 0x0A",
+        Edition::One,
+        Order::Ten,
+        TWO,
+        1,
+        1,
+    ),
+    (
+        CHAIR,
+        "order = 4",
+        "order = 0o12",
+        Edition::One,
+        Order::Ten,
+        TWO,
+        1,
+        1,
+    ),
+    (
+        CHAIR,
+        "order = 4",
+        "order = 1_0",
+        Edition::One,
+        Order::Ten,
+        TWO,
+        1,
+        1,
+    ),
 ];
 
-/// Returns true if the half square was read, in this edition and this order.
-fn is_of(rule: &Rule, edition: Edition, order: Order) -> bool {
-    rule.edition == edition
-        && rule.order == order
-        && rule.factor.c == [1, 1, 0, 0]
-        && rule.types.len() == 2
-        && rule.kinds.len() == 1
+/// Returns true if a rule was read as its row says.
+fn is_of(rule: &Rule, row: &Read) -> bool {
+    let (_, _, _, edition, order, factor, types, kinds) = row;
+    rule.edition == *edition
+        && rule.order == *order
+        && rule.factor.c == *factor
+        && rule.types.len() == *types
+        && rule.kinds.len() == *kinds
 }
 
-/// Returns true if the file is read as its row says.
-fn is_read(alloc: Global, row: &(&str, &str, Edition, Order)) -> Result<bool, Fail> {
-    let (piece, other, edition, order) = row;
-    let text = HALF_SQUARE.replace(alloc, piece, other)?;
+/// Returns true if a changed file is read as its row says.
+fn is_read(alloc: Global, row: &Read) -> Result<bool, AllocError> {
+    let text = row.0.replace(alloc, row.1, row.2)?;
     if text.len() > LONGEST_FILE {
         return Ok(false);
     }
-    Ok(is_of(&read_rule(alloc, text.as_bytes())?, *edition, *order))
+    Ok(match read_rule(alloc, text.as_bytes()) {
+        Ok(rule) => is_of(&rule, row),
+        Err(_) => false,
+    })
 }
 
-#[test]
-fn reads_both_formats(rt: HostRuntime) -> Result<(), Fail> {
-    for row in &READ {
-        assert!(rt; is_read(rt.alloc(), row)?);
-    }
-    Ok(())
-}
+/// Each edition, and the line of its format.
+const FORMATS: [(Edition, &str); 2] = [
+    (Edition::One, "format = 1\n"),
+    (Edition::Two, "format = 2\n"),
+];
 
-/// That the chair is written in the format of the edition, and read back to the edition.
-fn assert_both_ways(
-    rt: &impl Abort,
-    alloc: Global,
-    edition: Edition,
-    head: &str,
-) -> Result<(), Fail> {
+/// Returns true if the chair is written in the format of the edition, and read back to the edition.
+fn goes_both_ways(alloc: Global, edition: Edition, head: &str) -> Result<bool, TextFault> {
     let rule = chair(alloc, edition)?;
     let text = write_rule(alloc, &rule)?;
-    assert!(rt; text.as_str().starts_with(head));
-    assert!(rt; is_read_to_chair(alloc, text.as_str())?);
     let back = written_and_read(alloc, &rule)?;
-    assert!(rt; back.edition == edition && is_chair(&back));
-    Ok(())
+    Ok(
+        is_chair(&rule)
+            && text.as_str().starts_with(head)
+            && text.len() < 1_000
+            && is_read_to_chair(alloc, text.as_str())
+            && back.edition == edition
+            && is_chair(&back),
+    )
 }
 
-#[test]
-fn writes_both_formats(rt: HostRuntime) -> Result<(), Fail> {
-    let alloc = rt.alloc();
-    assert_both_ways(&rt, alloc, Edition::One, "format = 1\n")?;
-    assert_both_ways(&rt, alloc, Edition::Two, "format = 2\n")
+/// Notes the files that are read otherwise, and the formats that are written otherwise.
+pub fn note_editions(alloc: Global, wrong: &mut String) -> Result<(), TextFault> {
+    note(wrong, "the chair", is_read_to_chair(alloc, CHAIR))?;
+    for row in &READ {
+        note(wrong, row.2, is_read(alloc, row)?)?;
+    }
+    for (edition, head) in &FORMATS {
+        note(wrong, head, goes_both_ways(alloc, *edition, head)?)?;
+    }
+    Ok(())
 }

@@ -1,12 +1,12 @@
 //! Whole files: the chair with one piece of it changed.
 use crate::chair_rule::{CHAIR, is_read_to_chair};
+use crate::editions::note_editions;
 use crate::faults::{HEAD, fault_of};
-use cyclo_points::order::Order;
+use crate::wrong::note;
 use rule_text::key::Key;
 use rule_text::place::Place;
-use rule_text::reading::{LONGEST_FILE, read_rule};
 use rule_text::text_fault::TextFault;
-use std::alloc::Global;
+use std::alloc::{AllocError, Global};
 use std::test::Fail;
 
 const VERTICES: Key = Key::Vertices { kind: 0 };
@@ -99,74 +99,53 @@ static LISTS: [&str; 3] = [
     "type = []\n[[kind]]\nchildren = []\nedges = []\nvertices = []\n",
 ];
 
-/// A number, and the order that it is.
-static ORDERS: [(&str, Order); 8] = [
-    ("4", Order::Four),
-    ("+4", Order::Four),
-    ("0x8", Order::Eight),
-    ("0b1000", Order::Eight),
-    ("+10", Order::Ten),
-    ("0x0A", Order::Ten),
-    ("0o12", Order::Ten),
-    ("1_0", Order::Ten),
-];
-
-/// The fault of the chair with another piece in the place of one.
-fn fault_with(alloc: Global, piece: &str, other: &str) -> Result<Option<TextFault>, Fail> {
+/// Returns true if the chair with another piece in the place of one has this fault.
+fn has_fault(
+    alloc: Global,
+    piece: &str,
+    other: &str,
+    fault: TextFault,
+) -> Result<bool, AllocError> {
     let text = CHAIR.replace(alloc, piece, other)?;
-    fault_of(alloc, text.as_str(), "")
-}
-
-#[test]
-fn tells_the_fault_of_a_file(rt: HostRuntime) -> Result<(), Fail> {
-    for (piece, other, fault) in &FAULTS {
-        assert!(rt;
-            fault_with(rt.alloc(), piece, other)? == Some(*fault),
-            "at {other}"
-        );
-    }
-    Ok(())
+    Ok(fault_of(alloc, text.as_str()) == Some(fault))
 }
 
 /// Returns true if a piece is replaced by another one, and the chair is still read.
-fn is_spelling(alloc: Global, piece: &str, other: &str) -> Result<bool, Fail> {
+fn is_spelling(alloc: Global, piece: &str, other: &str) -> Result<bool, AllocError> {
     let text = CHAIR.replace(alloc, piece, other)?;
-    Ok(text.as_str() != CHAIR && is_read_to_chair(alloc, text.as_str())?)
+    Ok(text.as_str() != CHAIR && is_read_to_chair(alloc, text.as_str()))
 }
 
-#[test]
-fn reads_each_spelling(rt: HostRuntime) -> Result<(), Fail> {
+/// Returns true if types and kinds are read after the head.
+fn are_lists(alloc: Global, lists: &str) -> Result<bool, AllocError> {
+    let text = format!(in alloc; "{HEAD}{lists}")?;
+    Ok(fault_of(alloc, text.as_str()).is_none())
+}
+
+/// Notes the files that come out otherwise.
+fn note_files(alloc: Global, wrong: &mut String) -> Result<(), AllocError> {
+    for (piece, other, fault) in &FAULTS {
+        note(wrong, other, has_fault(alloc, piece, other, *fault)?)?;
+    }
     for (piece, other) in &SPELLINGS {
-        assert!(rt; is_spelling(rt.alloc(), piece, other)?, "at {other}");
+        note(wrong, other, is_spelling(alloc, piece, other)?)?;
     }
-    Ok(())
-}
-
-#[test]
-fn reads_lists_in_either_form(rt: HostRuntime) -> Result<(), Fail> {
     for lists in &LISTS {
-        assert!(rt; fault_of(rt.alloc(), HEAD, lists)?.is_none());
+        note(wrong, lists, are_lists(alloc, lists)?)?;
     }
     Ok(())
 }
 
-/// The order of the chair's file with this number in the place of its order.
-fn order_read(alloc: Global, number: &str) -> Result<Option<Order>, Fail> {
-    let line = format!(in alloc; "{number}\nlambda")?;
-    let text = CHAIR.replace(alloc, "4\nlambda", line.as_str())?;
-    if text.len() > LONGEST_FILE {
-        return Ok(None);
-    }
-    Ok(Some(read_rule(alloc, text.as_bytes())?.order))
+/// The files that come out otherwise.
+fn wrong_files(alloc: Global) -> Result<String, TextFault> {
+    let mut wrong = String::new(alloc);
+    note_files(alloc, &mut wrong)?;
+    note_editions(alloc, &mut wrong)?;
+    Ok(wrong)
 }
 
 #[test]
-fn reads_each_number(rt: HostRuntime) -> Result<(), Fail> {
-    for (number, order) in &ORDERS {
-        assert!(rt;
-            order_read(rt.alloc(), number)? == Some(*order),
-            "at {number}"
-        );
-    }
+fn files(rt: HostRuntime) -> Result<(), Fail> {
+    assert_eq!(rt; wrong_files(rt.alloc())?.as_str(), "");
     Ok(())
 }

@@ -1,8 +1,13 @@
 //! Faults of the keys before the types.
-use crate::faults::assert_faults;
+use crate::faults::note_faults;
 use rule_text::key::Key;
 use rule_text::text_fault::TextFault;
-use std::test::Fail;
+use std::alloc::{AllocError, Global};
+
+/// The line of each format.
+const ONE: &str = "format = 1\n";
+
+const TWO: &str = "format = 2\n";
 
 const FORMAT: Key = Key::Format;
 
@@ -174,16 +179,15 @@ static GLUE_ROWS: [(&str, TextFault); 12] = [
     ("glue = [0, 31]", TextFault::Missing { key: TYPES }),
 ];
 
-#[test]
-fn tells_faults_of_the_head(rt: HostRuntime) -> Result<(), Fail> {
-    let alloc = rt.alloc();
-    assert_faults(&rt, alloc, "", &FORMAT_ROWS)?;
-    assert_faults(&rt, alloc, "format = 1\n", &ORDER_ROWS)?;
-    assert_faults(&rt, alloc, "format = 1\norder = 4\n", &LAMBDA_ROWS)?;
-    assert_faults(&rt, alloc, "format = 1\norder = 8\n", &EIGHT_ROWS)?;
-    assert_faults(&rt, alloc, "format = 2\n", &ORDER_ROWS_OF_TWO)?;
-    assert_faults(&rt, alloc, "format = 2\norder = 4\n", &LAMBDA_ROWS)?;
-    assert_faults(&rt, alloc, "format = 2\norder = 6\n", &SIX_ROWS)?;
-    let head = "format = 1\norder = 4\nlambda = [2, 0, 0, 0]\n";
-    assert_faults(&rt, alloc, head, &GLUE_ROWS)
+/// Notes the faults of the head that come out otherwise.
+pub fn note_heads(alloc: Global, wrong: &mut String) -> Result<(), AllocError> {
+    note_faults(alloc, wrong, &[], &FORMAT_ROWS)?;
+    note_faults(alloc, wrong, &[ONE], &ORDER_ROWS)?;
+    note_faults(alloc, wrong, &[ONE, "order = 4\n"], &LAMBDA_ROWS)?;
+    note_faults(alloc, wrong, &[ONE, "order = 8\n"], &EIGHT_ROWS)?;
+    note_faults(alloc, wrong, &[TWO], &ORDER_ROWS_OF_TWO)?;
+    note_faults(alloc, wrong, &[TWO, "order = 4\n"], &LAMBDA_ROWS)?;
+    note_faults(alloc, wrong, &[TWO, "order = 6\n"], &SIX_ROWS)?;
+    let head = "order = 4\nlambda = [2, 0, 0, 0]\n";
+    note_faults(alloc, wrong, &[ONE, head], &GLUE_ROWS)
 }

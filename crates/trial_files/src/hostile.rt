@@ -1,10 +1,14 @@
-//! Files that are no documents, and documents that strain a reader.
-use crate::faults::{HEAD, assert_faults, fault_of};
+//! Files that are no documents, and documents that strain a reader; and the faults of all texts.
+use crate::faults::{HEAD, fault_of, note_faults};
+use crate::heads::note_heads;
+use crate::kinds::note_kinds;
+use crate::types::note_types;
+use crate::wrong::note;
 use rule_text::key::Key;
 use rule_text::place::Place;
 use rule_text::reading::{LONGEST_FILE, read_rule};
 use rule_text::text_fault::TextFault;
-use std::alloc::Global;
+use std::alloc::{AllocError, Global};
 use std::test::Fail;
 
 /// No documents, whatever their keys are.
@@ -54,32 +58,57 @@ static FURTHER: [(&str, TextFault); 1] = [(
     TextFault::UnknownKey { place: Place::Top },
 )];
 
-/// How many brackets open and close, and the fault.
-static NESTS: [(usize, usize, TextFault); 3] = [
-    (10_000, 0, TextFault::NotToml),
-    (5_000, 5_000, TextFault::NotToml),
-    (70, 70, TextFault::WrongType { key: Key::Format }),
+/// A name, pieces with how often each is repeated, and the fault of the text: brackets that open and close,
+/// and many dots, whose faults are reported like any others.
+static REPEATED: [(&str, &[(&str, usize)], TextFault); 9] = [
+    (
+        "10,000 brackets",
+        &[("format = ", 1), ("[", 10_000)],
+        TextFault::NotToml,
+    ),
+    (
+        "5,000 pairs",
+        &[("format = ", 1), ("[", 5_000), ("]", 5_000)],
+        TextFault::NotToml,
+    ),
+    (
+        "70 pairs",
+        &[("format = ", 1), ("[", 70), ("]", 70)],
+        TextFault::WrongType { key: Key::Format },
+    ),
+    ("5,000 tables", &[("a = {", 5_000)], TextFault::NotToml),
+    (
+        "5,000 parts of a key",
+        &[("a.", 5_000), ("a = 1", 1)],
+        TextFault::NotToml,
+    ),
+    ("dots alone", &[(".", 1_000_000)], TextFault::NotToml),
+    (
+        "210,000 parts of a key",
+        &[("a", 1), (".a", 210_000), (" = 1", 1)],
+        TextFault::NotToml,
+    ),
+    (
+        "210,000 numbers",
+        &[("format = [", 1), ("1.5,", 210_000), ("]", 1)],
+        TextFault::WrongType { key: Key::Format },
+    ),
+    (
+        "210,000 numbers of another key",
+        &[("a.b.c.d = [", 1), ("1.5,", 210_000), ("]", 1)],
+        TextFault::Missing { key: Key::Format },
+    ),
 ];
 
-/// Pieces that make no document if they are repeated 5,000 times, and the text after them.
-static MANY: [(&str, &str); 2] = [("a = {", ""), ("a.", "a = 1")];
-
-/// Returns the fault of a file with `opens` brackets that open after `format = `, and `closes` that close.
-fn fault_of_nest(alloc: Global, opens: usize, closes: usize) -> Result<Option<TextFault>, Fail> {
-    let mut text = String::from_str(alloc, "format = ")?;
-    for _ in 0..opens {
-        text.push_str("[")?;
+/// Returns the fault of a text of these pieces, each repeated.
+fn fault_of_many(alloc: Global, pieces: &[(&str, usize)]) -> Result<Option<TextFault>, AllocError> {
+    let mut text = String::new(alloc);
+    for (piece, times) in pieces {
+        for _ in 0..*times {
+            text.push_str(piece)?;
+        }
     }
-    for _ in 0..closes {
-        text.push_str("]")?;
-    }
-    fault_of(alloc, text.as_str(), "")
-}
-
-/// Returns the fault of a piece that is repeated 5,000 times before the end.
-fn fault_of_many(alloc: Global, piece: &str, behind: &str) -> Result<Option<TextFault>, Fail> {
-    let text = piece.repeat(alloc, 5_000)?;
-    fault_of(alloc, text.as_str(), behind)
+    Ok(fault_of(alloc, text.as_str()))
 }
 
 /// Returns true if bytes are no document.
@@ -87,36 +116,32 @@ fn is_no_document(alloc: Global, bytes: &[u8]) -> bool {
     bytes.len() <= LONGEST_FILE && read_rule(alloc, bytes).err() == Some(TextFault::NotToml)
 }
 
-#[test]
-fn refuses_what_is_no_document(rt: HostRuntime) -> Result<(), Fail> {
-    assert!(rt; is_no_document(rt.alloc(), b"\xff"));
-    assert!(rt; is_no_document(rt.alloc(), b"format = 1 # \xc3"));
+/// Notes the documents, and what is none, that come out otherwise.
+fn note_documents(alloc: Global, wrong: &mut String) -> Result<(), AllocError> {
+    note(wrong, "xff", is_no_document(alloc, b"\xff"))?;
+    note(wrong, "xc3", is_no_document(alloc, b"format = 1 # \xc3"))?;
     for text in &NO_DOCUMENTS {
-        assert!(rt; is_no_document(rt.alloc(), text.as_bytes()), "{text}");
+        note(wrong, text, is_no_document(alloc, text.as_bytes()))?;
     }
-    Ok(())
+    for (name, pieces, fault) in &REPEATED {
+        note(wrong, name, fault_of_many(alloc, pieces)? == Some(*fault))?;
+    }
+    note_faults(alloc, wrong, &[], &DOCUMENTS)?;
+    note_faults(alloc, wrong, &[HEAD], &FURTHER)
+}
+
+/// The texts that have other faults.
+fn wrong_faults(alloc: Global) -> Result<String, AllocError> {
+    let mut wrong = String::new(alloc);
+    note_heads(alloc, &mut wrong)?;
+    note_types(alloc, &mut wrong)?;
+    note_kinds(alloc, &mut wrong)?;
+    note_documents(alloc, &mut wrong)?;
+    Ok(wrong)
 }
 
 #[test]
-fn tells_faults_of_documents(rt: HostRuntime) -> Result<(), Fail> {
-    assert_faults(&rt, rt.alloc(), "", &DOCUMENTS)?;
-    assert_faults(&rt, rt.alloc(), HEAD, &FURTHER)
-}
-
-#[test]
-fn refuses_what_is_nested_too_deep(rt: HostRuntime) -> Result<(), Fail> {
-    let alloc = rt.alloc();
-    for (opens, closes, fault) in &NESTS {
-        assert!(rt;
-            fault_of_nest(alloc, *opens, *closes)? == Some(*fault),
-            "{opens}"
-        );
-    }
-    for (piece, behind) in &MANY {
-        assert!(rt;
-            fault_of_many(alloc, piece, behind)? == Some(TextFault::NotToml),
-            "{piece}"
-        );
-    }
+fn faults(rt: HostRuntime) -> Result<(), Fail> {
+    assert_eq!(rt; wrong_faults(rt.alloc())?.as_str(), "");
     Ok(())
 }

@@ -1,9 +1,9 @@
 //! Faults of the kinds, and of a further key at the top.
-use crate::faults::{HEAD, TYPES, assert_behind};
+use crate::faults::{HEAD, TYPES, note_faults};
 use rule_text::key::Key;
 use rule_text::place::Place;
 use rule_text::text_fault::TextFault;
-use std::test::Fail;
+use std::alloc::{AllocError, Global};
 
 const LIST: Key = Key::KindList;
 
@@ -185,17 +185,12 @@ const ONE_VERTEX: &str = "vertices = [[0,0,0,0]]\n";
 
 const ONE_EDGE: &str = "edges = [0]\n";
 
-#[test]
-fn tells_faults_of_kinds(rt: HostRuntime) -> Result<(), Fail> {
-    let alloc = rt.alloc();
-    assert_behind(&rt, alloc, &[HEAD, "type = []\n"], &TOP_ROWS)?;
-    assert_behind(&rt, alloc, &[HEAD, TYPES], &LIST_ROWS)?;
-    assert_behind(&rt, alloc, &[HEAD, TYPES, KIND], &VERTEX_ROWS)?;
-    assert_behind(&rt, alloc, &[HEAD, TYPES, KIND, ONE_VERTEX], &EDGE_ROWS)?;
-    assert_behind(
-        &rt,
-        alloc,
-        &[HEAD, TYPES, KIND, ONE_VERTEX, ONE_EDGE],
-        &CHILD_ROWS,
-    )
+/// Notes the faults of kinds that come out otherwise.
+pub fn note_kinds(alloc: Global, wrong: &mut String) -> Result<(), AllocError> {
+    note_faults(alloc, wrong, &[HEAD, "type = []\n"], &TOP_ROWS)?;
+    note_faults(alloc, wrong, &[HEAD, TYPES], &LIST_ROWS)?;
+    note_faults(alloc, wrong, &[HEAD, TYPES, KIND], &VERTEX_ROWS)?;
+    note_faults(alloc, wrong, &[HEAD, TYPES, KIND, ONE_VERTEX], &EDGE_ROWS)?;
+    let pieces = [HEAD, TYPES, KIND, ONE_VERTEX, ONE_EDGE];
+    note_faults(alloc, wrong, &pieces, &CHILD_ROWS)
 }

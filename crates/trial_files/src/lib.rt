@@ -5,8 +5,6 @@
 #![tactic(auto)]
 
 #[cfg(test)]
-mod both_ways;
-#[cfg(test)]
 mod chair_rule;
 #[cfg(test)]
 mod editions;
@@ -21,6 +19,6 @@ mod hostile;
 #[cfg(test)]
 mod kinds;
 #[cfg(test)]
-mod many_dots;
-#[cfg(test)]
 mod types;
+#[cfg(test)]
+mod wrong;

@@ -1,9 +1,9 @@
 //! Faults of the types.
-use crate::faults::{HEAD, TYPES, assert_behind};
+use crate::faults::{HEAD, TYPES, note_faults};
 use rule_text::key::Key;
 use rule_text::place::Place;
 use rule_text::text_fault::TextFault;
-use std::test::Fail;
+use std::alloc::{AllocError, Global};
 
 const LIST: Key = Key::TypeList;
 
@@ -112,10 +112,9 @@ static NEXT_ROWS: [(&str, TextFault); 3] = [
     ),
 ];
 
-#[test]
-fn tells_faults_of_types(rt: HostRuntime) -> Result<(), Fail> {
-    let alloc = rt.alloc();
-    assert_behind(&rt, alloc, &[HEAD], &LIST_ROWS)?;
-    assert_behind(&rt, alloc, &[HEAD, "[[type]]\n"], &ENTRY_ROWS)?;
-    assert_behind(&rt, alloc, &[HEAD, TYPES], &NEXT_ROWS)
+/// Notes the faults of types that come out otherwise.
+pub fn note_types(alloc: Global, wrong: &mut String) -> Result<(), AllocError> {
+    note_faults(alloc, wrong, &[HEAD], &LIST_ROWS)?;
+    note_faults(alloc, wrong, &[HEAD, "[[type]]\n"], &ENTRY_ROWS)?;
+    note_faults(alloc, wrong, &[HEAD, TYPES], &NEXT_ROWS)
 }

@@ -3,7 +3,13 @@ ghost use Rattle.std.specs.Prelude.{◌≡◌, ◌<◌, IsSome};
 ghost use Rattle.theory_addresses.specs.Tables.{contact_of, part_of};
 ghost use Rattle.rule_model.specs.Checked.{rule_contacts};
 
+use crate::crossings::note_crossings;
+use crate::described::note_described;
+use crate::editions::note_editions;
 use crate::nested::cross;
+use crate::numbers::reads_the_chair;
+use crate::refused::note_refused;
+use crate::wrong::Wrong;
 use builtin_rules::builtin::builtin;
 use builtin_rules::name::Name;
 use edge_tables::steps::Steps;
@@ -12,8 +18,8 @@ use rule_model::checked::Checked;
 use std::alloc::Global;
 use std::marker::Brand;
 use std::sync::ledger::{Blank, Ledger};
-use std::test::Fail;
 use tile_shape::address::Address;
+use tile_shape::no_memory::NoMemory;
 use tile_shape::step::Step;
 use transducer_core::crossing::Crossing;
 use transducer_core::flat_table::FlatTable;
@@ -168,8 +174,8 @@ fn same_entries<L: Ledger>(tables: &Tables, flat: &FlatTable, steps: &mut Steps<
     true
 }
 
-/// At how many of 1,000 edges drawn of a rule all agree, and whether both tables have the same entries.
-fn tried<L: Ledger>(alloc: Global, name: Name, blank: Blank) -> Result<(usize, bool), Fail>
+/// Returns true if all agree at each of 1,000 edges drawn of a rule, and both tables have the same entries.
+fn agrees<L: Ledger>(alloc: Global, name: Name, blank: Blank) -> Result<bool, NoMemory>
     requires name { blank.name ≡ L.name }
     requires parts { blank.parts ≡ L.parts }
     requires some { 0 < blank.parts }
@@ -177,9 +183,10 @@ fn tried<L: Ledger>(alloc: Global, name: Name, blank: Blank) -> Result<(usize, b
     let mut steps = Steps::<L>::new(blank);
     let checked = builtin(alloc, name)?;
     let transducer = Transducer::compile(alloc, checked.tables())?;
-    let agreed = agreements(&checked, &transducer, &mut steps);
-    let same = same_entries(checked.tables(), transducer.flat(), &mut steps);
-    Ok((agreed, same))
+    Ok(
+        agreements(&checked, &transducer, &mut steps) == 1000
+            && same_entries(checked.tables(), transducer.flat(), &mut steps),
+    )
 }
 
 /// The built-in rules.
@@ -191,10 +198,33 @@ static NAMES: [Name; 5] = [
     Name::HalfHex,
 ];
 
-#[test]
-fn as_the_plain_program(rt: HostRuntime) -> Result<(), Fail> {
-    for name in &NAMES {
-        assert!(rt; tried::<Brand>(rt.alloc(), *name, Blank::new(1))? == (1000, true));
+/// Notes the first rule at which the plain program doesn't agree.
+fn note_agreements(alloc: Global, wrong: &mut Wrong) {
+    for (row, name) in NAMES.iter().enumerate() {
+        let agrees = agrees::<Brand>(alloc, *name, Blank::new(1));
+        wrong.note("agreement", row, agrees.unwrap_or(false));
     }
-    Ok(())
+}
+
+/// The first row of all tables that comes out otherwise.
+fn first_wrong(alloc: Global) -> Wrong {
+    let mut wrong = Wrong::default();
+    note_agreements(alloc, &mut wrong);
+    note_editions(alloc, &mut wrong);
+    note_refused(alloc, &mut wrong);
+    note_described(alloc, &mut wrong);
+    let is_made = note_crossings(alloc, &mut wrong).is_ok();
+    wrong.note("memory", 0, is_made);
+    wrong.note(
+        "reads_the_chair",
+        0,
+        reads_the_chair(alloc).unwrap_or(false),
+    );
+    wrong
+}
+
+#[test]
+fn tables(rt: HostRuntime) {
+    let wrong = first_wrong(rt.alloc());
+    assert_eq!(rt; wrong.name, "", "row {}", wrong.row);
 }

@@ -1,4 +1,5 @@
-//! Rules typed as tables of numbers.
+//! Rules typed as texts, and what comes of them.
+use crate::wrong::Wrong;
 use cyclo_points::order::Order;
 use cyclo_points::point::Point;
 use dissect_check::check::check;
@@ -10,129 +11,183 @@ use rule_model::rule::Rule;
 use rule_model::type_row::TypeRow;
 use std::alloc::{AllocError, Global};
 
-/// The coefficients of a point.
-pub type Quad = [i64; 4];
+/// A rule's text, a piece of it, and what stands in the place of that piece; the rule as it is, if there is no
+/// piece.
+pub type Given = (&'static str, &'static str, &'static str);
 
-/// An edge type: its mate, and its parts.
-pub type EdgeType = (u8, &'static [u8]);
+/// The number of a word.
+fn number(word: &str) -> u8 {
+    word.parse().unwrap_or(255)
+}
 
-/// A child: its kind, its turn, and its shift.
-pub type Placed = (u8, u8, Quad);
+/// The point of four coefficients.
+fn point(text: &str) -> Point {
+    let mut c = [i64::MAX; 4];
+    for (coefficient, word) in c.iter_mut().zip(text.split(',')) {
+        *coefficient = word.parse().unwrap_or(i64::MAX);
+    }
+    Point { c }
+}
 
-/// A kind: its vertices, the types of its edges, and its children.
-pub type Kind = (&'static [Quad], &'static [u8], &'static [Placed]);
+/// The numbers of a list.
+fn numbers(alloc: Global, text: &str) -> Result<Vec<u8>, AllocError> {
+    let mut numbers = Vec::new(alloc);
+    if !text.is_empty() {
+        for word in text.split(',') {
+            numbers.push(number(word))?;
+        }
+    }
+    Ok(numbers)
+}
 
-/// A rule: its order, its factor, its glue types, its edge types, and its kinds.
-pub struct Given(
-    pub Order,
-    pub Quad,
-    pub &'static [u8],
-    pub &'static [EdgeType],
-    pub &'static [Kind],
-);
-
-/// The points of these coefficients.
-fn points(alloc: Global, quads: &[Quad]) -> Result<Vec<Point>, AllocError> {
+/// The points of a list.
+fn points(alloc: Global, text: &str) -> Result<Vec<Point>, AllocError> {
     let mut points = Vec::new(alloc);
-    for c in quads {
-        points.push(Point { c: *c })?;
+    for word in text.split(' ') {
+        points.push(point(word))?;
     }
     Ok(points)
 }
 
-/// The children of these numbers.
-fn children(alloc: Global, placed: &[Placed]) -> Result<Vec<Child>, AllocError> {
+/// The children of a list.
+fn children(alloc: Global, text: &str) -> Result<Vec<Child>, AllocError> {
     let mut children = Vec::new(alloc);
-    for (kind, turn, shift) in placed {
+    for word in text.split(' ') {
+        let (kind, rest) = word.split_once('.').unwrap_or((word, ""));
+        let (turn, shift) = rest.split_once('@').unwrap_or((rest, ""));
         children.push(Child {
-            kind: *kind,
-            turn: *turn,
-            shift: Point { c: *shift },
+            kind: number(kind),
+            turn: number(turn),
+            shift: point(shift),
         })?;
     }
     Ok(children)
 }
 
-/// Returns the kind of these numbers.
-pub fn kind_row(alloc: Global, kind: &Kind) -> Result<KindRow, AllocError> {
+/// The kind of a text.
+fn kind_row(alloc: Global, text: &str) -> Result<KindRow, AllocError> {
+    let (vertices, rest) = text.split_once(" | ").unwrap_or((text, ""));
+    let (edges, placed) = rest.split_once(" | ").unwrap_or((rest, ""));
     Ok(KindRow {
-        vertices: points(alloc, kind.0)?,
-        edges: kind.1.to_vec(alloc)?,
-        children: children(alloc, kind.2)?,
+        vertices: points(alloc, vertices)?,
+        edges: numbers(alloc, edges)?,
+        children: children(alloc, placed)?,
     })
 }
 
-/// The edge types of these numbers.
-fn type_rows(alloc: Global, types: &[EdgeType]) -> Result<Vec<TypeRow>, AllocError> {
+/// The edge types of a list.
+fn type_rows(alloc: Global, text: &str) -> Result<Vec<TypeRow>, AllocError> {
     let mut rows = Vec::new(alloc);
-    for (mate, parts) in types {
-        let parts = parts.to_vec(alloc)?;
-        rows.push(TypeRow { mate: *mate, parts })?;
+    if !text.is_empty() {
+        for word in text.split(' ') {
+            let (mate, parts) = word.split_once(':').unwrap_or((word, ""));
+            let parts = numbers(alloc, parts)?;
+            let mate = number(mate);
+            rows.push(TypeRow { mate, parts })?;
+        }
     }
     Ok(rows)
 }
 
-/// The kinds of these numbers.
-fn kind_rows(alloc: Global, kinds: &[Kind]) -> Result<Vec<KindRow>, AllocError> {
+/// The kinds of a text.
+fn kind_rows(alloc: Global, text: &str) -> Result<Vec<KindRow>, AllocError> {
     let mut rows = Vec::new(alloc);
-    for kind in kinds {
-        rows.push(kind_row(alloc, kind)?)?;
+    if !text.is_empty() {
+        for kind in text.split("; ") {
+            rows.push(kind_row(alloc, kind)?)?;
+        }
     }
     Ok(rows)
 }
 
-/// Returns the rule of these numbers, in an edition.
-pub fn rule_of(alloc: Global, edition: Edition, given: &Given) -> Result<Rule, AllocError> {
+/// The order of this number.
+fn order_of(text: &str) -> Order {
+    match number(text) {
+        4 => Order::Four,
+        6 => Order::Six,
+        8 => Order::Eight,
+        _ => Order::Ten,
+    }
+}
+
+/// The first section of a text, and the others.
+fn section(text: &str) -> (&str, &str) {
+    text.split_once("; ").unwrap_or((text, ""))
+}
+
+/// Returns the rule of a text, in an edition.
+fn rule_of(alloc: Global, edition: Edition, text: &str) -> Result<Rule, AllocError> {
+    let (order, rest) = section(text);
+    let (factor, rest) = section(rest);
+    let (glue, rest) = section(rest);
+    let (types, kinds) = section(rest);
     Ok(Rule {
         edition,
-        order: given.0,
-        factor: Point { c: given.1 },
-        glue: given.2.to_vec(alloc)?,
-        types: type_rows(alloc, given.3)?,
-        kinds: kind_rows(alloc, given.4)?,
+        order: order_of(order),
+        factor: point(factor),
+        glue: numbers(alloc, glue)?,
+        types: type_rows(alloc, types)?,
+        kinds: kind_rows(alloc, kinds)?,
     })
 }
 
-/// Returns the rule of these numbers, in the first edition that has its order.
-pub fn rule(alloc: Global, given: &Given) -> Result<Rule, AllocError> {
-    let edition = if given.0 == Order::Six {
+/// Returns the rule of a text, in the first edition that has its order.
+pub fn rule(alloc: Global, text: &str) -> Result<Rule, AllocError> {
+    let edition = if text.starts_with("6;") {
         Edition::Two
     } else {
         Edition::One
     };
-    rule_of(alloc, edition, given)
+    rule_of(alloc, edition, text)
 }
 
-/// The fault for which a rule is refused in an edition, if it is.
-fn fault(alloc: Global, edition: Edition, given: &Given) -> Result<Option<CheckFault>, AllocError> {
-    Ok(check(alloc, rule_of(alloc, edition, given)?).err())
-}
-
-/// Returns the number of the first rule whose outcome in an edition is not the one expected of all of them.
-pub fn first_of_others(
+/// The fault for which a text is refused in an edition, if it is.
+pub fn fault_of(
     alloc: Global,
+    edition: Edition,
+    text: &str,
+) -> Result<Option<CheckFault>, AllocError> {
+    Ok(check(alloc, rule_of(alloc, edition, text)?).err())
+}
+
+/// Returns true if a rule comes to this in an edition.
+fn comes_to(
+    alloc: Global,
+    edition: Edition,
+    given: &Given,
+    wanted: Option<CheckFault>,
+) -> Result<bool, AllocError> {
+    let (text, piece, other) = given;
+    if piece.is_empty() {
+        return Ok(fault_of(alloc, edition, text)? == wanted);
+    }
+    let text = text.replace(alloc, piece, other)?;
+    Ok(fault_of(alloc, edition, text.as_str())? == wanted)
+}
+
+/// Notes the first rule whose outcome in an edition is not the one expected of all of them.
+pub fn note_others(
+    alloc: Global,
+    wrong: &mut Wrong,
     edition: Edition,
     rules: &[Given],
     wanted: Option<CheckFault>,
-) -> Result<Option<usize>, AllocError> {
+) {
     for (row, given) in rules.iter().enumerate() {
-        if fault(alloc, edition, given)? != wanted {
-            return Ok(Some(row));
-        }
+        let is_right = comes_to(alloc, edition, given, wanted).unwrap_or(false);
+        wrong.note(given.0, row, is_right);
     }
-    Ok(None)
 }
 
-/// Returns the number of the first rule that an edition does not refuse for the fault in its row.
-pub fn first_not_refused(
+/// Notes the first rule that an edition does not refuse for the fault in its row.
+pub fn note_not_refused(
     alloc: Global,
+    wrong: &mut Wrong,
     edition: Edition,
     rows: &[(Given, CheckFault)],
-) -> Result<Option<usize>, AllocError> {
-    for (row, (given, wanted)) in rows.iter().enumerate() {
-        if fault(alloc, edition, given)? != Some(*wanted) {
-            return Ok(Some(row));
-        }
+) {
+    for (row, (given, fault)) in rows.iter().enumerate() {
+        let is_right = comes_to(alloc, edition, given, Some(*fault)).unwrap_or(false);
+        wrong.note(given.0, row, is_right);
     }
-    Ok(None)
 }

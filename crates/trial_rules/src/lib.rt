@@ -26,3 +26,5 @@ mod printed;
 mod refused;
 #[cfg(test)]
 mod shapes;
+#[cfg(test)]
+mod wrong;

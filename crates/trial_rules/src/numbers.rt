@@ -1,10 +1,10 @@
 //! The numbers of the chair, each read once.
 use crate::given::rule;
-use crate::shapes::THE_CHAIR;
+use crate::shapes::CHAIR;
 use cyclo_points::point::Point;
 use rule_model::child::Child;
 use rule_model::rule::Rule;
-use std::test::Fail;
+use std::alloc::{AllocError, Global};
 
 /// The vertex, where there is one, and how many there are.
 fn vertex_there(rule: &Rule, kind: usize, i: usize) -> (Option<Point>, usize) {
@@ -91,12 +91,8 @@ fn reads_types(rule: &Rule) -> bool {
         && glue_there(rule, 0) == None
 }
 
-#[test]
-fn reads_the_chair(rt: HostRuntime) -> Result<(), Fail> {
-    let rule = rule(rt.alloc(), &THE_CHAIR)?;
-    assert!(rt; reads_vertices(&rule));
-    assert!(rt; reads_edges(&rule));
-    assert!(rt; reads_children(&rule));
-    assert!(rt; reads_types(&rule));
-    Ok(())
+/// Returns true if the numbers of the chair are read.
+pub fn reads_the_chair(alloc: Global) -> Result<bool, AllocError> {
+    let rule = rule(alloc, CHAIR)?;
+    Ok(reads_vertices(&rule) && reads_edges(&rule) && reads_children(&rule) && reads_types(&rule))
 }

@@ -11,7 +11,7 @@ use std::sync::ledger::{Blank, Ledger};
 use tile_shape::uses::Uses;
 
 /// What an edge of a child is, where there is such an edge.
-fn contact_there<L: Ledger>(
+pub(crate) fn contact_there<L: Ledger>(
     tables: &Tables,
     kind: u8,
     here: ChildEdge,
@@ -20,7 +20,8 @@ fn contact_there<L: Ledger>(
     if kind >= tables.kinds() || here.child >= tables.children(kind) {
         return None;
     }
-    if here.edge >= tables.edges(tables.child_kind(kind, here.child)) {
+    let own = tables.child_kind(kind, here.child);
+    if own >= tables.kinds() || here.edge >= tables.edges(own) {
         return None;
     }
     Some(tables.contact(kind, here.child, here.edge, steps))

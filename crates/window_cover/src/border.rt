@@ -13,7 +13,7 @@ use std::marker::Model;
 use tile_shape::no_memory::NoMemory;
 
 /// An edge that was opened, and true if it is still open.
-#[derive(Clone, Copy, Debug)]
+#[derive(Clone, Copy)]
 pub(crate) struct Listed {
     ends: Ends,
     edge: OpenEdge,

@@ -13,7 +13,7 @@ const RAISE: i64 = 1 << 31;
 const UPPER: u64 = 1 << 32;
 
 /// The start and the end of an edge. Each is two words, and each word has two coefficients.
-#[derive(Clone, Copy, Debug, PartialEq, Eq, Hash)]
+#[derive(Clone, Copy, PartialEq, Eq, Hash)]
 pub(crate) struct Ends {
     pub(crate) start_low: u64,
     pub(crate) start_high: u64,

@@ -20,7 +20,7 @@ const NUMBERS: u64 = 1 << 18;
 /// The fields of a word: the four coefficients of the shift, then the turn, the kind, and the number of the
 /// tile. The coefficients lie in these spans, and the kind is below `kinds`. Words are ordered like these
 /// numbers.
-#[derive(Clone, Copy, Debug)]
+#[derive(Clone, Copy)]
 pub(crate) struct Fields {
     a0: Span,
     a1: Span,

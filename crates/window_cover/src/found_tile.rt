@@ -2,7 +2,7 @@
 use cyclo_points::motion::Motion;
 
 /// A tile found: its place, and where its digits are in the list of all digits.
-#[derive(Clone, Copy, Debug)]
+#[derive(Clone, Copy)]
 pub(crate) struct FoundTile {
     pub(crate) motion: Motion,
     /// Where its digits begin.

@@ -3,7 +3,7 @@ use cyclo_points::point::Point;
 
 /// A run: how far its leaves are moved, if at all, and where the digits coarser than theirs are in the list
 /// of all such digits.
-#[derive(Clone, Copy, Debug)]
+#[derive(Clone, Copy)]
 pub(crate) struct Run {
     pub(crate) shift: Option<Point>,
     /// Where its digits begin.

@@ -7,7 +7,7 @@ ghost use Rattle.window_cover.specs.Words.{IsSpan, LiesIn, span_width, offset_in
 const LIMIT: i64 = 1 << 24;
 
 /// The integers from `least` to `greatest`.
-#[derive(Clone, Copy, Debug)]
+#[derive(Clone, Copy)]
 pub(crate) struct Span {
     pub(crate) least: i64,
     pub(crate) greatest: i64,

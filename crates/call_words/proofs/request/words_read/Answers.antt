@@ -1,4 +1,5 @@
-use Rattle.std.proofs.Common.{rules, ◌≡◌, ◌+◌, ◌<◌, true, cond, string_bytes, Err, [], ◌∷◌, ◌++◌, length, take, drop, sym, ap, ◌∙◌, subst}
+use Rattle.std.proofs.Common.{rules, ◌≡◌, ◌+◌, ◌<◌, true, cond, string_bytes, Err, [], ◌∷◌, ◌++◌, length, take, drop, sym, ap, ◌∙◌, subst, arith}
+use Rattle.std.proofs.lemmas.Grind.{common_steps}
 use Rattle.std.proofs.lemmas.List.{take_more, drop_more, map-append}
 use Rattle.call_words.specs.Reading.{HaveForms}
 use Rattle.call_words.specs.Request.{asked_behind}
@@ -47,3 +48,12 @@ loop-place-preserved c =
       c.put_word.ensures.put before so_far.1 so_far.2 put ∙ ap values_given (sym more),
       subst (HaveForms command) (sym more) (have_forms command before word so_far.2 right),
     )
+
+pub returns-in_default : goal.returns-in_default
+returns-in_default c = grind (arith, common_steps)
+
+pub returns-in_default-named : goal.returns-in_default-named
+returns-in_default-named c = grind (arith, common_steps)
+
+pub returns : goal.returns
+returns c = grind (arith, common_steps)

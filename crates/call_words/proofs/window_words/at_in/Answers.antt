@@ -1,4 +1,5 @@
-use Rattle.std.proofs.Common.{[], ◌∷◌, sym, ◌∙◌}
+use Rattle.std.proofs.Common.{[], ◌∷◌, sym, ◌∙◌, arith}
+use Rattle.std.proofs.lemmas.Grind.{common_steps}
 use Rattle.call_words.proofs.Commas.{found_none, at_one, at_two, at_three, at_four, at_found}
 use Rattle.call_words.proofs.window_words.at_in.Goals as goal
 
@@ -30,3 +31,6 @@ returns-clause-point c =
     ∙ at_found (a.first.now ∷ []) a.rest.now c.split_once-2.result (b.second, b.rest) c.split_once-2.ensures.cases b.was
     ∙ at_found (a.first.now ∷ (b.second.now ∷ [])) b.rest.now c.split_once-3.result (d.third, d.fourth) c.split_once-3.ensures.cases d.was
     ∙ at_four a.first.now b.second.now d.third.now d.fourth.now)
+
+pub point_of_texts-requires-text-first : goal.point_of_texts-requires-text-first
+point_of_texts-requires-text-first c = grind (arith, common_steps)

@@ -1,4 +1,5 @@
-use Rattle.std.proofs.Common.{pos, ◌*◌, subst, sym, refl}
+use Rattle.std.proofs.Common.{pos, ◌*◌, subst, sym, refl, arith}
+use Rattle.std.proofs.lemmas.Grind.{common_steps}
 use Rattle.theory_ring.specs.Ring.{integers}
 use Rattle.cyclo_points.specs.Six.{conj_six}
 use Rattle.cyclo_points.specs.Eight.{conj_eight}
@@ -47,3 +48,15 @@ returns-in-Ten-clause-at_most_doubled c =
     λ m h. within_quad (2 * m) (conjugate_ten c.args.p.now) (conj_ten integers (quad_of c.args.p.now))
     (conjugate_ten-is c.args.p.now c.requires.p_within)
     (conj_ten-doubles m (quad_of c.args.p.now) (quad_within m c.args.p.now h))
+
+pub returns-in-Four-clause-in_order : goal.returns-in-Four-clause-in_order
+returns-in-Four-clause-in_order c = grind (arith, common_steps)
+
+pub returns-in-Six-clause-in_order : goal.returns-in-Six-clause-in_order
+returns-in-Six-clause-in_order c = grind (arith, common_steps)
+
+pub returns-in-Eight-clause-in_order : goal.returns-in-Eight-clause-in_order
+returns-in-Eight-clause-in_order c = grind (arith, common_steps)
+
+pub returns-in-Ten-clause-in_order : goal.returns-in-Ten-clause-in_order
+returns-in-Ten-clause-in_order c = grind (arith, common_steps)

@@ -1,4 +1,5 @@
-use Rattle.std.proofs.Common.{pos, ◌*◌, ◌∙◌, subst, sym, refl}
+use Rattle.std.proofs.Common.{pos, ◌*◌, ◌∙◌, subst, sym, refl, arith}
+use Rattle.std.proofs.lemmas.Grind.{common_steps}
 use Rattle.cyclo_points.specs.Point.{coefficient, quad_of}
 use Rattle.cyclo_points.proofs.Identities.{pair_path}
 use Rattle.cyclo_points.proofs.Readings.{point_of, machine_difference, machine_difference-is}
@@ -29,3 +30,18 @@ returns-in-Eight-clause-same_number c = subst (λ o. IsReduced o c.args.p.now c.
 
 pub returns-in-Ten-clause-same_number : goal.returns-in-Ten-clause-same_number
 returns-in-Ten-clause-same_number c = subst (λ o. IsReduced o c.args.p.now c.args.p.now) (sym c.in-Ten.is) (reduced_ten (quad_of c.args.p.now))
+
+pub returns-in-Four-clause-in_order : goal.returns-in-Four-clause-in_order
+returns-in-Four-clause-in_order c = grind (arith, common_steps)
+
+pub returns-in-Six-clause-at_most_doubled : goal.returns-in-Six-clause-at_most_doubled
+returns-in-Six-clause-at_most_doubled c = grind (arith, common_steps)
+
+pub returns-in-Six-clause-in_order : goal.returns-in-Six-clause-in_order
+returns-in-Six-clause-in_order c = grind (arith, common_steps)
+
+pub returns-in-Eight-clause-in_order : goal.returns-in-Eight-clause-in_order
+returns-in-Eight-clause-in_order c = grind (arith, common_steps)
+
+pub returns-in-Ten-clause-in_order : goal.returns-in-Ten-clause-in_order
+returns-in-Ten-clause-in_order c = grind (arith, common_steps)

@@ -1,4 +1,5 @@
-use Rattle.std.proofs.Common.{◌*◌, ◌∙◌, subst, sym}
+use Rattle.std.proofs.Common.{◌*◌, ◌∙◌, subst, sym, arith}
+use Rattle.std.proofs.lemmas.Grind.{common_steps}
 use Rattle.cyclo_points.specs.Point.{Within}
 use Rattle.cyclo_points.proofs.Identities.{pair_path}
 use Rattle.cyclo_points.proofs.CoordinateReadings.{IsX, part_doubled, part_difference, part_of_x-six, part_of_x, part_of_x-theta, within_doubled, within_difference, within_part_of_x, within_part_of_x-theta}
@@ -45,3 +46,15 @@ returns-in-Ten-clause-bounded c =
       at_b = subst (Within (4 * m)) (sym (r.ensures.of_b ∙ part_of_x-theta _ _ _ h.at_1 h.at_2 h.at_3))
           (within_part_of_x-theta m _ _ _ f.at_1 f.at_2 f.at_3);
     }
+
+pub returns-in-Four-clause-in_order : goal.returns-in-Four-clause-in_order
+returns-in-Four-clause-in_order c = grind (arith, common_steps)
+
+pub returns-in-Six-clause-in_order : goal.returns-in-Six-clause-in_order
+returns-in-Six-clause-in_order c = grind (arith, common_steps)
+
+pub returns-in-Eight-clause-in_order : goal.returns-in-Eight-clause-in_order
+returns-in-Eight-clause-in_order c = grind (arith, common_steps)
+
+pub returns-in-Ten-clause-in_order : goal.returns-in-Ten-clause-in_order
+returns-in-Ten-clause-in_order c = grind (arith, common_steps)

@@ -1,6 +1,7 @@
 use Rattle.std.specs.Int.{w128}
 use Rattle.std.specs.declared.cmp.Ordering.TheVariants.{Greater}
 use Rattle.std.proofs.Common.{◌≡◌, ◌*◌, ◌^◌, ℤ, arith, subst, sym, ◌∙◌, ap₂}
+use Rattle.std.proofs.lemmas.Grind.{common_steps}
 use Rattle.std.proofs.lemmas.Int.{ints}
 use Rattle.cyclo_points.specs.declared.order.Order.{Order}
 use Rattle.cyclo_points.specs.declared.real.Real.{Real}
@@ -59,3 +60,12 @@ returns-else-are_short-clause-bounded c =
     let e = kept_product o c.args.r.now c.args.s.now p.result p.ensures.product p.ensures.in_order c.requires.r_within c.requires.s_within in
     λ m k f g. subst (IsRealWithin (3 * m * k)) (sym e)
     (multiplied_within o m k c.args.r.now c.args.s.now p.result p.ensures.product p.ensures.in_order f g)
+
+pub returns-then-are_short-clause-in_order : goal.returns-then-are_short-clause-in_order
+returns-then-are_short-clause-in_order c = grind (arith, common_steps)
+
+pub returns-else-are_short-clause-product : goal.returns-else-are_short-clause-product
+returns-else-are_short-clause-product c = grind (arith, common_steps)
+
+pub returns-else-are_short-clause-in_order : goal.returns-else-are_short-clause-in_order
+returns-else-are_short-clause-in_order c = grind (arith, common_steps)

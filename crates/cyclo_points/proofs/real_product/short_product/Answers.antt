@@ -1,4 +1,5 @@
-use Rattle.std.proofs.Common.{◌≡◌, pos, ◌+ℤ◌, ◌*ℤ◌, ◌∙◌, ap₂, sym, subst}
+use Rattle.std.proofs.Common.{◌≡◌, pos, ◌+ℤ◌, ◌*ℤ◌, ◌∙◌, ap₂, sym, subst, arith}
+use Rattle.std.proofs.lemmas.Grind.{common_steps}
 use Rattle.cyclo_points.specs.Real.{real_in}
 use Rattle.cyclo_points.proofs.Reals.{in_either}
 use Rattle.cyclo_points.proofs.RealProducts.{read_short_product, short_kept, short_double_sum, short_sum, short_three, multiplied, multiplied_four, multiplied_six, multiplied_eight, multiplied_ten}
@@ -48,3 +49,12 @@ returns-in-Ten-clause-product c =
     (made.ensures.of_a ∙ short_sum first.result last.result first.ensures.bounded last.ensures.bounded ∙ ap₂ ◌+ℤ◌ ac bd)
     (made.ensures.of_b ∙ short_three outer.result inner.result last.result outer.ensures.bounded
     inner.ensures.bounded last.ensures.bounded ∙ ap₂ ◌+ℤ◌ (ap₂ ◌+ℤ◌ ad bc) bd))
+
+pub returns-in-Four-clause-in_order : goal.returns-in-Four-clause-in_order
+returns-in-Four-clause-in_order c = grind (arith, common_steps)
+
+pub returns-in-Eight-clause-in_order : goal.returns-in-Eight-clause-in_order
+returns-in-Eight-clause-in_order c = grind (arith, common_steps)
+
+pub returns-in-Ten-clause-in_order : goal.returns-in-Ten-clause-in_order
+returns-in-Ten-clause-in_order c = grind (arith, common_steps)

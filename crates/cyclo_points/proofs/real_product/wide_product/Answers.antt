@@ -1,5 +1,6 @@
 use Rattle.std.specs.Int.{w128}
-use Rattle.std.proofs.Common.{◌≡◌, pos, ◌+ℤ◌, ◌*ℤ◌, ◌∙◌, ap₂, sym, subst}
+use Rattle.std.proofs.Common.{◌≡◌, pos, ◌+ℤ◌, ◌*ℤ◌, ◌∙◌, ap₂, sym, subst, arith}
+use Rattle.std.proofs.lemmas.Grind.{common_steps}
 use Rattle.cyclo_points.specs.Real.{number}
 use Rattle.cyclo_points.proofs.Reals.{in_either, reading}
 use Rattle.cyclo_points.proofs.RealProducts.{read_wide_product, wide_kept, wide_double_sum, wide_sum, wide_three, multiplied, multiplied_four, multiplied_six, multiplied_eight, multiplied_ten}
@@ -56,3 +57,12 @@ returns-in-Ten-clause-product c =
     (wide_sum first.result last.result first.ensures.bounded last.ensures.bounded ∙ ap₂ ◌+ℤ◌ ac bd)
     (wide_three outer.result inner.result last.result outer.ensures.bounded inner.ensures.bounded
     last.ensures.bounded ∙ ap₂ ◌+ℤ◌ (ap₂ ◌+ℤ◌ ad bc) bd))
+
+pub returns-in-Four-clause-in_order : goal.returns-in-Four-clause-in_order
+returns-in-Four-clause-in_order c = grind (arith, common_steps)
+
+pub returns-in-Eight-clause-in_order : goal.returns-in-Eight-clause-in_order
+returns-in-Eight-clause-in_order c = grind (arith, common_steps)
+
+pub returns-in-Ten-clause-in_order : goal.returns-in-Ten-clause-in_order
+returns-in-Ten-clause-in_order c = grind (arith, common_steps)

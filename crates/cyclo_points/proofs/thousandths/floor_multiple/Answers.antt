@@ -1,6 +1,7 @@
 use Rattle.std.specs.Int.{w128, int_div_euclid}
 use Rattle.std.specs.declared.cmp.Ordering.TheVariants.{Greater}
 use Rattle.std.proofs.Common.{arith, ℕ, ℤ, ◌≡◌, ◌<◌, ◌^◌, ◌*◌, pos, neg_ℤ, ◌*ℤ◌, ◌+ℤ◌, ◌≤ℤ◌, ◌<ℤ◌, FitsSigned, int_cmp, refl, sym, subst, ◌∙◌, ap}
+use Rattle.std.proofs.lemmas.Grind.{common_steps}
 use Rattle.std.proofs.lemmas.Int.{ints, to_z-of_z}
 use Rattle.theory_ring.proofs.Ordered.{two_above, five_above, whole_greater, greater_whole}
 use Rattle.theory_ring.proofs.Squares.{no_root_two, no_root_five}
@@ -144,3 +145,12 @@ returns-in-Ten-clause-below_next c =
     ∙ ten-below_next (reading w128 x.result) b c.requires.b_within
     (quotient-below_next x.result _ (pos 31297329056220708970904012 *ℤ b) 19342813113834066795298816
     (omega arith) f x.ensures (read_ten b c.requires.b_within))
+
+pub returns-in-Four-clause-bounded : goal.returns-in-Four-clause-bounded
+returns-in-Four-clause-bounded c = grind (arith, common_steps)
+
+pub returns-in-Eight-clause-bounded : goal.returns-in-Eight-clause-bounded
+returns-in-Eight-clause-bounded c = grind (arith, common_steps)
+
+pub returns-in-Ten-clause-bounded : goal.returns-in-Ten-clause-bounded
+returns-in-Ten-clause-bounded c = grind (arith, common_steps)

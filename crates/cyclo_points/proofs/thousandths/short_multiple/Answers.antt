@@ -1,4 +1,5 @@
-use Rattle.std.proofs.Common.{◌≡◌, ◌^◌, pos, ◌+ℤ◌, sym, refl, subst, ap, ◌∙◌}
+use Rattle.std.proofs.Common.{◌≡◌, ◌^◌, pos, ◌+ℤ◌, sym, refl, subst, ap, ◌∙◌, arith}
+use Rattle.std.proofs.lemmas.Grind.{common_steps}
 use Rattle.cyclo_points.specs.declared.order.Order.TheVariants.{Eight, Ten}
 use Rattle.std.specs.declared.cmp.Ordering.TheVariants.{Greater}
 use Rattle.cyclo_points.specs.Point.{Within}
@@ -51,3 +52,6 @@ returns-in-Ten-clause-below_next c =
 
 pub returns-in-Ten-clause-bounded : goal.returns-in-Ten-clause-bounded
 returns-in-Ten-clause-bounded c = subst (Within (2 ^ 42)) (sym (read_ten c.args.b c.requires.b_within)) (ten-within c.args.b c.requires.b_within)
+
+pub returns-in-Four-clause-bounded : goal.returns-in-Four-clause-bounded
+returns-in-Four-clause-bounded c = grind (arith, common_steps)

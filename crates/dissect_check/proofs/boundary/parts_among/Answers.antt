@@ -1,4 +1,5 @@
 use Rattle.std.proofs.Common.{◌≡◌, ◌+◌, ◌<◌, ◌≤◌, ◌&&◌, [], ◌∷◌, ◌++◌, map, length, sym, ap, ap₂, subst, ◌∙◌, arith, eq-eqb}
+use Rattle.std.proofs.lemmas.Grind.{common_steps, elements}
 use Rattle.std.proofs.lemmas.List.{map_push, length_push, length-map}
 use Rattle.std.proofs.lemmas.List.Elements.{All-filter}
 use Rattle.std.proofs.lemmas.Bool.{ne_eqb}
@@ -78,3 +79,18 @@ returns-then-edges-len-clause-parts c =
     (point_in o c.loop-part.from) (subst (λ n. n ≤ c.loop-part.part) (c.part_count-part-end.ensures.numbers o) c.loop-part-test.false)
     (ap₂ (λ a b. a && b) (sym (c.same_point.ensures o c.loop-part.invariant.from_of
     c.requires.whole_small.to_of) ∙ c.if-same_point.true) (eq-eqb _ _ count)) c.loop-part.invariant.found
+
+pub loop-part-init : goal.loop-part-init
+loop-part-init c = grind (arith, common_steps)
+
+pub overflow_cast-result-then-from-part : goal.overflow_cast-result-then-from-part
+overflow_cast-result-then-from-part c = grind (arith, elements)
+
+pub returns-in_err-push-clause-parts : goal.returns-in_err-push-clause-parts
+returns-in_err-push-clause-parts c = grind (arith, common_steps)
+
+pub returns-in_err-push-clause-few : goal.returns-in_err-push-clause-few
+returns-in_err-push-clause-few c = grind (arith, common_steps)
+
+pub returns-then-edges-len-clause-few : goal.returns-then-edges-len-clause-few
+returns-then-edges-len-clause-few c = grind (arith, elements)

@@ -1,5 +1,6 @@
 use Rattle.std.specs.Global.{Global}
-use Rattle.std.proofs.Common.{Vec, sym}
+use Rattle.std.proofs.Common.{Vec, sym, arith}
+use Rattle.std.proofs.lemmas.Grind.{common_steps}
 use Rattle.std.proofs.lemmas.Result.{err_from_is_err_and}
 use Rattle.edge_tables.specs.declared.kind_rows.KindRows.{KindRows}
 use Rattle.rule_model.specs.declared.rule.Rule.{Rule}
@@ -38,3 +39,21 @@ admit-requires-clause-accepted c = accepted-both c.args.rule c.in_ok-before_chil
 
 pub returns-clause-fault : goal.returns-clause-fault
 returns-clause-fault c = no_fault c.args.rule c.in_ok-before_children.ensures c.in_ok-rows.ensures.fault
+
+pub tables_of-requires-clause-kinds : goal.tables_of-requires-clause-kinds
+tables_of-requires-clause-kinds c = grind (arith, common_steps)
+
+pub returns-in_err-tables-clause-rule_given : goal.returns-in_err-tables-clause-rule_given
+returns-in_err-tables-clause-rule_given c = grind (arith, common_steps)
+
+pub returns-in_err-uses-clause-rule_given : goal.returns-in_err-uses-clause-rule_given
+returns-in_err-uses-clause-rule_given c = grind (arith, common_steps)
+
+pub admit-requires-clause-its_tables : goal.admit-requires-clause-its_tables
+admit-requires-clause-its_tables c = grind (arith, common_steps)
+
+pub admit-requires-clause-its_uses : goal.admit-requires-clause-its_uses
+admit-requires-clause-its_uses c = grind (arith, common_steps)
+
+pub returns-clause-rule_given : goal.returns-clause-rule_given
+returns-clause-rule_given c = grind (arith, common_steps)

@@ -1,5 +1,6 @@
 use Rattle.std.specs.Global.{Global}
 use Rattle.std.proofs.Common.{Vec, length, arith}
+use Rattle.std.proofs.lemmas.Grind.{common_steps}
 use Rattle.std.proofs.lemmas.Result.{err_from_is_err_and}
 use Rattle.rule_model.specs.Views.{as_rule, rule_of}
 use Rattle.dissect_check.specs.declared.inflated.Inflated.{Inflated}
@@ -28,3 +29,18 @@ loop-kind-preserved c =
           c.in_ok-loose_of_kind.field-0 c.in_ok-push.ensures.items c.loop-kind.invariant.kept
           c.in_ok-loose_of_kind.ensures.inflated;
     }
+
+pub loop-kind-init : goal.loop-kind-init
+loop-kind-init c = grind (arith, common_steps)
+
+pub loose_of_kind-requires-clause-kind_in : goal.loose_of_kind-requires-clause-kind_in
+loose_of_kind-requires-clause-kind_in c = grind (arith, common_steps)
+
+pub returns-in_err-loose_of_kind-clause-inflated : goal.returns-in_err-loose_of_kind-clause-inflated
+returns-in_err-loose_of_kind-clause-inflated c = grind (arith, common_steps)
+
+pub returns-in_err-push-clause-fault : goal.returns-in_err-push-clause-fault
+returns-in_err-push-clause-fault c = grind (arith, common_steps)
+
+pub returns-in_err-push-clause-inflated : goal.returns-in_err-push-clause-inflated
+returns-in_err-push-clause-inflated c = grind (arith, common_steps)

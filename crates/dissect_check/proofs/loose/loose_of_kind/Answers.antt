@@ -1,4 +1,5 @@
 use Rattle.std.proofs.Common.{◌≡◌, ℕ, map, not, length, get_or, ◌<◌, ◌∙◌, Some, None, sym, ap, arith}
+use Rattle.std.proofs.lemmas.Grind.{common_steps}
 use Rattle.theory_addresses.specs.Search.{unless}
 use Rattle.theory_edge_to_edge.specs.Lying.{loose, lie_of, is_loose}
 use Rattle.cyclo_points.specs.Order.{points_of}
@@ -53,3 +54,9 @@ loop-i-preserved c =
     (sym (lie_at r k p c.in_ok-parent.ensures i below lie d) ∙ ap as_lie (sym c.index.ensures))
     ∙ ap (λ b. unless (not b) (ChildEdgeLoose k e.child e.edge)) (not_loose lie c.in_default.not-Loose) in
     sym (first_some-later (loose_fault r.order (as_rule r) k) (edge_in r.order) p.edges.items i below none) ∙ c.loop-i.invariant
+
+pub returns-clause-fault : goal.returns-clause-fault
+returns-clause-fault c = grind (arith, common_steps)
+
+pub returns-clause-inflated : goal.returns-clause-inflated
+returns-clause-inflated c = grind (arith, common_steps)

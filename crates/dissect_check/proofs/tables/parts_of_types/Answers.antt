@@ -1,4 +1,5 @@
-use Rattle.std.proofs.Common.{◌≤◌, map, length, sym, ap, subst, ◌∙◌}
+use Rattle.std.proofs.Common.{◌≤◌, map, length, sym, ap, subst, ◌∙◌, arith}
+use Rattle.std.proofs.lemmas.Grind.{common_steps}
 use Rattle.std.proofs.lemmas.List.{take_all}
 use Rattle.std.proofs.lemmas.Simd.{map-map}
 use Rattle.theory_substitution.specs.Rule.{EdgeType}
@@ -13,3 +14,9 @@ returns c =
     (take_all c.loop-row.row-index rows (subst (λ xs. length xs ≤ c.loop-row.row-index)
     c.deref-row-items.ensures.value c.loop-row-test.false))
     ∙ sym (map-map (λ (t : EdgeType). t.parts) as_type rows)
+
+pub returns-in_err-push : goal.returns-in_err-push
+returns-in_err-push c = grind (arith, common_steps)
+
+pub loop-row-preserved : goal.loop-row-preserved
+loop-row-preserved c = grind (arith, common_steps)

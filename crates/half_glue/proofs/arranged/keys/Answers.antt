@@ -1,4 +1,5 @@
 use Rattle.std.proofs.Common.{List, [], ◌∷◌, ◌++◌, take, sym, ap, ◌∙◌, arith, add-one}
+use Rattle.std.proofs.lemmas.Grind.{common_steps}
 use Rattle.tile_place.specs.Keys.{key_of}
 use Rattle.tile_place.specs.declared.order_key.OrderKey.{OrderKey}
 use Rattle.tile_place.specs.declared.placed_tile.PlacedTile.{PlacedTile}
@@ -28,3 +29,6 @@ loop-number-preserved c = λ f.
       c.len-count.ensures,
       c.args.made.now.pairs.ok,
     )) c.index.ensures) ∙ ap (λ n. first_keys (take n wholes)) (sym (add-one k))
+
+pub returns : goal.returns
+returns c = grind (arith, common_steps)

@@ -1,4 +1,5 @@
 use Rattle.std.proofs.Common.{◌≡◌, ◌<◌, ap, ◌∙◌, subst, arith}
+use Rattle.std.proofs.lemmas.Grind.{elements}
 use Rattle.cyclo_points.specs.Motion.{motion_in}
 use Rattle.cyclo_points.specs.Order.{points_of}
 use Rattle.theory_substitution.specs.Motion.{followed}
@@ -20,3 +21,6 @@ returns c =
       turn_below = subst (λ o. motion.turn < (points_of o).order) same c.compose-motion.ensures.turn_below;
     })
     c.args.tiles.now c.in_ok-place.place c.in_ok-place.ensures.found
+
+pub overflow_cast-result : goal.overflow_cast-result
+overflow_cast-result c = grind (arith, elements)

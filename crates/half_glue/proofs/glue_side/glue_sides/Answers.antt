@@ -1,4 +1,5 @@
 use Rattle.std.proofs.Common.{◌≡◌, length, sym, ap, ◌∙◌, subst, arith}
+use Rattle.std.proofs.lemmas.Grind.{common_steps}
 use Rattle.rule_model.specs.declared.rule.Rule.{Rule}
 use Rattle.rule_model.specs.Tiling.{tiling_of}
 use Rattle.rule_model.specs.Views.{rule_in}
@@ -20,3 +21,12 @@ returns c =
           (c.rule.ensures.rule ∙ c.checked.ensures.rule);
       each = λ k l. c.loop-kind.invariant.1 k (let same = c.loop-kind.invariant.0 in omega (arith, l, same));
     }
+
+pub loop-kind-init : goal.loop-kind-init
+loop-kind-init c = grind arith
+
+pub overflow_cast-kind : goal.overflow_cast-kind
+overflow_cast-kind c = grind arith
+
+pub glue_side-requires : goal.glue_side-requires
+glue_side-requires c = grind (arith, common_steps)

@@ -1,4 +1,5 @@
-use Rattle.std.proofs.Common.{sym, ◌∙◌, subst}
+use Rattle.std.proofs.Common.{sym, ◌∙◌, subst, arith}
+use Rattle.std.proofs.lemmas.Grind.{common_steps, elements}
 use Rattle.std.proofs.lemmas.Bool.{eqb-true}
 use Rattle.theory_substitution.specs.RuleParts.{mate, edge_type}
 use Rattle.rule_model.specs.declared.rule.Rule.{Rule}
@@ -44,3 +45,9 @@ returns-then-meets c =
       glues = c.glue_motion.ensures.glues;
       within = c.glue_motion.ensures.shift_within;
     }
+
+pub glue_edge-requires : goal.glue_edge-requires
+glue_edge-requires c = grind (arith, common_steps)
+
+pub are_mates-requires : goal.are_mates-requires
+are_mates-requires c = grind (arith, elements)

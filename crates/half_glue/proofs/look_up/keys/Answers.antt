@@ -1,4 +1,5 @@
 use Rattle.std.proofs.Common.{List, [], ◌∷◌, ◌++◌, take, sym, ap, ◌∙◌, arith, add-one}
+use Rattle.std.proofs.lemmas.Grind.{common_steps}
 use Rattle.tile_place.specs.declared.order_key.OrderKey.{OrderKey}
 use Rattle.tile_place.specs.declared.placed_tile.PlacedTile.{PlacedTile}
 use Rattle.half_glue.specs.Keys.{own_keys}
@@ -14,3 +15,6 @@ loop-number-preserved c =
     ∙ ap (λ (key : OrderKey). own_keys (take k tiles) ++ key ∷ []) c.of.ensures
     ∙ sym (keys-more (λ (y : PlacedTile). y) 0 k k tiles x (omega arith) c.loop-number-test.true
     c.index-tiles-number.is) ∙ ap (λ n. own_keys (take n tiles)) (sym (add-one k))
+
+pub returns : goal.returns
+returns c = grind (arith, common_steps)

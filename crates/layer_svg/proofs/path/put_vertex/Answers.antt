@@ -1,4 +1,5 @@
 use Rattle.std.proofs.Common.{◌≡◌, ◌+◌, ◌*◌, ◌^◌, ℤ, to_z, of_z, w64, ap, ◌∙◌, arith}
+use Rattle.std.proofs.lemmas.Grind.{common_steps}
 use Rattle.std.proofs.lemmas.Int.{ints}
 use Rattle.std.specs.Int.{w128}
 use Rattle.cyclo_points.specs.Order.{points_of}
@@ -52,3 +53,6 @@ returns-clause-vertex c =
     ∙ ap (thousandths o) (c.x.ensures.coordinate
     ∙ ap (points_of o).x (c.sub-offset.ensures.is_difference o)))
     c.put_signed.ensures.number c.put.ensures c.put_signed-2.ensures.number
+
+pub returns-clause-at_most : goal.returns-clause-at_most
+returns-clause-at_most c = grind (arith, common_steps)

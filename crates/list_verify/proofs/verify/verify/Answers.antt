@@ -1,4 +1,5 @@
-use Rattle.std.proofs.Common.{◌≡◌, ap, ◌∙◌, subst}
+use Rattle.std.proofs.Common.{◌≡◌, ap, ◌∙◌, subst, arith}
+use Rattle.std.proofs.lemmas.Grind.{common_steps}
 use Rattle.theory_walks.specs.Frames.{FrameValue}
 use Rattle.rule_model.specs.declared.rule.Rule.{Rule}
 use Rattle.rule_model.specs.Tiling.{tiling_of}
@@ -86,3 +87,12 @@ returns-clause-lacking c =
     let v = verdict at.After-by_walk c.in_default.ensures.stays in
     lacking (tiling_of c.args.machine.now) c.args.frame.now c.by_walk.new.frame c.args.window.now c.args.listing.now
     (one at.After-one_verdict_law) c.by_walk.result v.right v.cause
+
+pub returns-in-Some-clause-depth : goal.returns-in-Some-clause-depth
+returns-in-Some-clause-depth c = grind (arith, common_steps)
+
+pub returns-in-Some-clause-right : goal.returns-in-Some-clause-right
+returns-in-Some-clause-right c = grind (arith, common_steps)
+
+pub by_walk-requires-clause-frame : goal.by_walk-requires-clause-frame
+by_walk-requires-clause-frame c = grind (arith, common_steps)

@@ -1,4 +1,5 @@
-use Rattle.std.proofs.Common.{◌≡◌, ℤ, Vec, Global, ap, sym, ◌∙◌, map, ◌++◌, [], ◌∷◌}
+use Rattle.std.proofs.Common.{◌≡◌, ℤ, Vec, Global, ap, sym, ◌∙◌, map, ◌++◌, [], ◌∷◌, arith}
+use Rattle.std.proofs.lemmas.Grind.{common_steps}
 use Rattle.std.proofs.lemmas.List.{map_push}
 use Rattle.rule_model.specs.Views.{as_child}
 use Rattle.rule_text.specs.Ranges.{child_in_row}
@@ -14,3 +15,12 @@ loop-row-preserved c =
     c.loop-row.row-index c.row-item.result (as_child c.in-Some.child)
     (map as_child c.loop-row.children.items) c.loop-row-test.true c.row-item.is found
     c.loop-row.invariant)
+
+pub returns-in_err-push : goal.returns-in_err-push
+returns-in_err-push c = grind arith
+
+pub returns-in_default : goal.returns-in_default
+returns-in_default c = grind (arith, common_steps)
+
+pub returns : goal.returns
+returns c = grind (arith, common_steps)

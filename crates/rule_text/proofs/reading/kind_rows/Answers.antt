@@ -1,4 +1,5 @@
-use Rattle.std.proofs.Common.{◌≡◌, ◌∙◌, ◌++◌, ◌∷◌, [], ℕ, Bor, BTreeMap, String, Global, Result, Ok, ap, map}
+use Rattle.std.proofs.Common.{◌≡◌, ◌∙◌, ◌++◌, ◌∷◌, [], ℕ, Bor, BTreeMap, String, Global, Result, Ok, ap, map, arith}
+use Rattle.std.proofs.lemmas.Grind.{common_steps}
 use Rattle.std.proofs.lemmas.List.{map_push}
 use Rattle.toml.specs.declared.value.Value.{Value}
 use Rattle.toml.specs.View.{table_view}
@@ -20,3 +21,12 @@ loop-i-preserved c =
     ap (map as_kind) c.in_ok-push.ensures.items ∙ map_push as_kind c.loop-i.rows.items c.in_ok-row.row in
     rw done (in_order-more read c.args.entries.now c.loop-i.i x (as_kind c.in_ok-row.row)
     (map as_kind c.loop-i.rows.items) _ c.loop-i-test.true c.index-entries-i.is here c.loop-i.invariant)
+
+pub returns-in_err-row : goal.returns-in_err-row
+returns-in_err-row c = grind (arith, common_steps)
+
+pub returns : goal.returns
+returns c = grind (arith, common_steps)
+
+pub returns-in_err-push : goal.returns-in_err-push
+returns-in_err-push c = grind arith

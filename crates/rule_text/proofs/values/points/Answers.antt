@@ -1,3 +1,5 @@
+use Rattle.std.proofs.Common.{arith}
+use Rattle.std.proofs.lemmas.Grind.{common_steps}
 use Rattle.toml.specs.View.{view}
 use Rattle.rule_text.specs.Written.{point_data, IsFour}
 use Rattle.rule_text.proofs.Pushes.{map-more, All-more}
@@ -10,3 +12,6 @@ loop-p-preserved c = record {
       c.loop-p.invariant.values;
   fours = All-more IsFour c.args.ps.now c.loop-p.p-index _ c.loop-p-test.true c.in_ok-point.ensures.fours c.loop-p.invariant.fours;
 }
+
+pub returns : goal.returns
+returns c = grind (arith, common_steps)

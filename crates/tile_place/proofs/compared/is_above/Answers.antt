@@ -1,4 +1,5 @@
 use Rattle.std.proofs.Common.{◌≡◌, length, arith, ap₂, ◌∙◌, sym}
+use Rattle.std.proofs.lemmas.Grind.{common_steps}
 use Rattle.std.specs.Prelude.{int_lt}
 use Rattle.std.proofs.lemmas.Int.{ints}
 use Rattle.cyclo_points.specs.Point.{coefficient}
@@ -18,3 +19,6 @@ returns c =
     let p3 : machine (coefficient p 3) ≡ coefficient p 3 = omega (arith, ints) in
     let q3 : machine (coefficient q 3) ≡ coefficient q 3 = omega (arith, ints) in
     ap₂ int_lt q3 p3 ∙ sym (last_decides p q l m first second third)
+
+pub returns-then-p-q : goal.returns-then-p-q
+returns-then-p-q c = grind (arith, common_steps)

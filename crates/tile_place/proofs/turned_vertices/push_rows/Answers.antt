@@ -64,3 +64,15 @@ returns c =
           (subst (λ n. place_of x k s e < n) (sym total)
           (vertex-below t x k s e hk hs (omega (arith, he, some))));
     }
+
+pub loop-row-init : goal.loop-row-init
+loop-row-init c = grind arith
+
+pub nonzero_rem-steps : goal.nonzero_rem-steps
+nonzero_rem-steps c = grind arith
+
+pub overflow_cast-steps : goal.overflow_cast-steps
+overflow_cast-steps c = grind arith
+
+pub turned_point-requires-clause-turn_below : goal.turned_point-requires-clause-turn_below
+turned_point-requires-clause-turn_below c = grind arith

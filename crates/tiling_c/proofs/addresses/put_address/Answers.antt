@@ -6,7 +6,7 @@ use Rattle.tiling_c.proofs.addresses.put_address.Goals as goal
 pub returns-in-Ok-clause-read : goal.returns-in-Ok-clause-read
 returns-in-Ok-clause-read c =
     let uses = c.uses.ensures ∙ ap (λ r. children (tiling_of r)) c.checked.ensures.rule in
-    λ _. ok_read _ _ c.args.text.now _ _ uses c.in-Ok.ensures.exact (sym c.write.ensures.seen)
+    λ _. ok_read _ _ c.args.text.now _ _ uses c.in-Ok.ensures.exact (sym c.write.ensures.its_digits)
 
 pub returns-in-Ok-clause-bad_address : goal.returns-in-Ok-clause-bad_address
 returns-in-Ok-clause-bad_address c =

@@ -1,7 +1,8 @@
-use Rattle.std.proofs.Common.{◌≡◌, ◌<◌, length, slice_set, rules}
+use Rattle.std.proofs.Common.{◌≡◌, ◌<◌, ◌≤◌, length, slice_set, rules}
+use Rattle.c_values.specs.declared.plain_address.PlainAddress.{PlainAddress}
 use Rattle.c_values.specs.Addresses.{address_in}
 use Rattle.tiling_c.specs.Shown.{tile_shown, address_shown}
-use Rattle.tiling_c.proofs.Fronts.{front_more, seen_more, behind_more}
+use Rattle.tiling_c.proofs.Fronts.{front_more, seen_more, behind_more, all_more}
 use Rattle.tiling_c.proofs.covering.put_both.Goals as goal
 
 pub loop-place-preserved : goal.loop-place-preserved
@@ -20,6 +21,8 @@ loop-place-preserved c =
           c.placed.ensures c.loop-place.invariant.front;
       behind = behind_more tiles c.args.tiles.now i c.placed.result c.loop-place.invariant.behind;
       addresses_front = seen_more address_in address_shown all addrs i tile c.write.new.self in_all in_addrs
-          c.tile-tile.ensures c.write.ensures.seen c.loop-place.invariant.addresses_front;
+          c.tile-tile.ensures c.write.ensures.its_digits c.loop-place.invariant.addresses_front;
+      no_deeper = all_more (λ (p : PlainAddress). p.depth ≤ 64) addrs i c.write.new.self in_addrs
+          c.loop-place.invariant.no_deeper c.write.ensures.no_deeper;
       addresses_behind = behind_more addrs c.args.addrs.now i c.write.new.self c.loop-place.invariant.addresses_behind;
     }

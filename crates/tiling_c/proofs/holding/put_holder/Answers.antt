@@ -10,7 +10,7 @@ returns-in-Ok-clause-holds c = λ _. record {
   only = c.in-Ok.ensures.only_tile;
   stands = c.in-Ok.ensures.stands;
   its_numbers = c.placed.ensures;
-  its_address = c.write.ensures.seen;
+  its_address = c.write.ensures;
 }
 
 pub returns-in-Ok-clause-found : goal.returns-in-Ok-clause-found

@@ -4,8 +4,7 @@ pub returns-in-Ok-clause-located : goal.returns-in-Ok-clause-located
 returns-in-Ok-clause-located c = λ _. record {
   tile = c.in-Ok.found;
   only = c.in-Ok.ensures.only_tile;
-  its_kind = c.in-Ok.ensures.of_supertile.its_kind;
-  its_depth = c.in-Ok.ensures.of_supertile.its_depth;
+  of_supertile = c.in-Ok.ensures.of_supertile;
   its_numbers = c.placed.ensures;
-  its_address = c.write.ensures.seen;
+  its_address = c.write.ensures;
 }

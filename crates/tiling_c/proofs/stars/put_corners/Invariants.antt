@@ -1,4 +1,5 @@
-use Rattle.std.proofs.Common.{◌≡◌, length, map, take}
+use Rattle.std.proofs.Common.{◌≡◌, ◌≤◌, length, map, take, drop, All}
+use Rattle.c_values.specs.declared.plain_address.PlainAddress.{PlainAddress}
 use Rattle.c_values.specs.Addresses.{address_in}
 use Rattle.tiling_c.specs.Stars.{corner_shown, corner_address}
 use Rattle.tiling_c.proofs.stars.put_corners.Given as goal
@@ -9,4 +10,7 @@ invariant-loop-i l = record {
   count : l.out.count ≡ length l.corners;
   tiles : take l.i l.out.tiles ≡ map corner_shown (take l.i l.corners);
   addresses : map address_in (take l.i l.out.addrs) ≡ map corner_address (take l.i l.corners);
+  no_deeper : All (λ (p : PlainAddress). p.depth ≤ 64) (take l.i l.out.addrs);
+  tiles_behind : drop l.i l.out.tiles ≡ drop l.i l.fn.out.tiles;
+  addresses_behind : drop l.i l.out.addrs ≡ drop l.i l.fn.out.addrs;
 }

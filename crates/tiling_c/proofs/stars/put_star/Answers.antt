@@ -14,7 +14,7 @@ returns-in-Ok-clause-star g c =
       stand = found.stand.stand;
       round = found.round;
       in_turn = found.turning;
-      held = subst (λ cs. HoldsCorners cs c.put_corners.new.out) c.as_slice.ensures.value c.put_corners.ensures;
+      held = subst (λ cs. HoldsCorners cs c.args.out.now c.put_corners.new.out) c.as_slice.ensures.value c.put_corners.ensures;
     }
 
 pub returns-in-Err-clause-star : goal.returns-in-Err-clause-star

@@ -11,7 +11,7 @@ use Rattle.tiling_c.proofs.stars.tiling_star.Goals as goal
 pub returns-clause-star : goal.returns-clause-star
 returns-clause-star c =
     subst (λ r. c.turn.result ≡ ok → ShowsStar (tiling_of r) (frame_in c.args.frame.now) c.args.vertex
-    c.turn.new.out) c.get.ensures c.turn.ensures.star
+    c.args.out.now c.turn.new.out) c.get.ensures c.turn.ensures.star
 
 pub returns-clause-within : goal.returns-clause-within
 returns-clause-within c =

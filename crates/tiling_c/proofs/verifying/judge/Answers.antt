@@ -1,11 +1,11 @@
-use Rattle.std.proofs.Common.{◌≡◌, ℕ, List, ◌-◌, Ok, inl, inr, sym, ap, ◌∙◌, subst, arith}
+use Rattle.std.proofs.Common.{◌≡◌, ◌≤◌, ℕ, List, ◌-◌, Ok, inl, inr, sym, ap, ◌∙◌, subst, arith}
 use Rattle.rule_model.specs.declared.rule.Rule.{Rule}
 use Rattle.rule_model.specs.Tiling.{tiling_of, children}
 use Rattle.listing_text.specs.Listing.{listing_in}
 use Rattle.list_verify.specs.Verdict.{HasCause}
 use Rattle.tile_shape.specs.Usable.{AreUsable}
 use Rattle.tiling_c.specs.Verifying.{entries_given, listing_given, AreEntries}
-use Rattle.tiling_c.proofs.Verified.{all_listed, entries_length, are_tiles, are_verified, fault_not_ok, no_room}
+use Rattle.tiling_c.proofs.Verified.{all_listed, entries_length, are_tiles, are_verified, fault_not_ok, no_room, some_fault}
 use Rattle.tiling_c.proofs.verifying.judge.Goals.{In-Ok, then-status-eq-BAD_LISTING, else-status-eq-BAD_LISTING}
 use Rattle.tiling_c.proofs.verifying.judge.Goals as goal
 
@@ -46,7 +46,8 @@ returns-clause-complete c =
     c.args.addrs.now c.as_slice.result.now (c.as_slice.ensures.value ∙ c.in-Ok.ensures.text) (read ok) right))
 
 pub returns-clause-wrong : goal.returns-clause-wrong
-returns-clause-wrong c = λ _ _. inr (record {
+returns-clause-wrong c = let given = (goal.at.returns-clause-wrong c).In-Ok in λ _ _. inr (record {
+  entries = are_entries given;
   why = c.in-Err.why;
   frame = c.verify.new.frame;
   grown = c.in-Err.ensures.frame;
@@ -55,6 +56,14 @@ returns-clause-wrong c = λ _ _. inr (record {
   its_status = c.status_of-status.ensures;
   its_fault = λ e. elim c.if-status-eq-BAD_LISTING.branch [
     | then-status-eq-BAD_LISTING w ↦ w.fault-is ∙ w.number_of.ensures
+    | else-status-eq-BAD_LISTING w ↦ absurd (w.if-status-eq-BAD_LISTING.false e)
+  ];
+  some_fault = λ e. elim c.if-status-eq-BAD_LISTING.branch [
+    | then-status-eq-BAD_LISTING w ↦ subst (λ (n : ℕ). 2 ≤ n) (sym (w.fault-is ∙ w.number_of.ensures))
+        (some_fault (tiling_of c.args.machine.now) c.args.frame.now c.verify.new.frame c.args.window.now
+        (listing_given c.args.tiles.now c.args.addrs.now) (entries_given c.args.tiles.now c.args.addrs.now) (read given) c.in-Err.why
+        (subst (λ (text : List ℕ). HasCause (tiling_of c.args.machine.now) c.args.frame.now c.verify.new.frame c.args.window.now text c.in-Err.why)
+        (c.as_slice.ensures.value ∙ c.in-Ok.ensures.text) c.in-Err.ensures.cause) (sym c.status_of-status.ensures ∙ e))
     | else-status-eq-BAD_LISTING w ↦ absurd (w.if-status-eq-BAD_LISTING.false e)
   ];
   its_index = λ e. elim c.if-status-eq-BAD_LISTING.branch [

@@ -28,12 +28,12 @@ loop-i-init g c =
     record {
       tiles_room = length-set c.args.tiles.now 0 c.placed.result ∙ c.requires.tiles_room;
       addresses_room = length-set c.args.addrs.now 0 addr ∙ c.requires.addresses_room;
-      base = ap address_in there ∙ c.write.ensures.seen ∙ c.base_tile-tile.ensures.base;
+      base = ap address_in there ∙ c.write.ensures.its_digits ∙ c.base_tile-tile.ensures.base;
       base_stands = subst (λ a. ShowsStanding t f 0 (tile_at (slice_set c.args.tiles.now 0 c.placed.result) 0) a) (sym there)
           (subst (λ x. ShowsStanding t f 0 x addr) (sym shown)
-          (record { tile = tile; stands = stands; its_numbers = c.placed.ensures; its_address = c.write.ensures.seen }));
+          (record { tile = tile; stands = stands; its_numbers = c.placed.ensures; its_address = c.write.ensures }));
       each = λ j below. absurd (omega (arith, below));
-      here = ap address_in there ∙ c.write.ensures.seen;
+      here = ap address_in there ∙ c.write.ensures.its_digits;
       stands = stands;
       within = c.base_tile-tile.ensures.at_origin;
       ahead = subst (λ (a : Address). CanBeWalked t a c.args.path.now) (sym c.base_tile-tile.ensures.base) c.requires.walked;
@@ -71,9 +71,9 @@ loop-i-preserved g c =
     c.unwrap-back.ensures c.step.ensures.only_tile_across in
     let seen : IsOnlyAcross t (address_in (address_at c.loop-i.addrs i)) e (address_in addr) back =
     subst (λ (b : Address). IsOnlyAcross t b e (address_in addr) back) (sym inv.here)
-    (subst (λ (b : Address). IsOnlyAcross t a e b back) (sym c.write-in-loop-i.ensures.seen) across) in
+    (subst (λ (b : Address). IsOnlyAcross t a e b back) (sym c.write-in-loop-i.ensures.its_digits) across) in
     let shown : ShowsStanding t f back c.placed-in-loop-i.result addr =
-    record { tile = next; stands = c.step.ensures.stands; its_numbers = c.placed-in-loop-i.ensures; its_address = c.write-in-loop-i.ensures.seen } in
+    record { tile = next; stands = c.step.ensures.stands; its_numbers = c.placed-in-loop-i.ensures; its_address = c.write-in-loop-i.ensures } in
     let ahead = ahead_at t a inv.ahead.0 path i c.loop-i-test.true inv.ahead.1 in
     let first : address_at (slice_set c.loop-i.addrs (i + 1) addr) 0 ≡ address_at c.loop-i.addrs 0
     = address_before c.loop-i.addrs (i + 1) 0 addr (omega arith) in
@@ -86,7 +86,7 @@ loop-i-preserved g c =
       base_stands = subst (λ b. ShowsStanding t f 0 (tile_at (slice_set c.loop-i.tiles (i + 1) c.placed-in-loop-i.result) 0) b) (sym first)
           (subst (λ y. ShowsStanding t f 0 y (address_at c.loop-i.addrs 0)) (sym first') inv.base_stands);
       each = one_walked t f path c.loop-i.tiles c.loop-i.addrs i c.placed-in-loop-i.result addr in_tiles in_addrs inv.each back seen shown;
-      here = ap address_in (address_there c.loop-i.addrs (i + 1) addr in_addrs) ∙ c.write-in-loop-i.ensures.seen;
+      here = ap address_in (address_there c.loop-i.addrs (i + 1) addr in_addrs) ∙ c.write-in-loop-i.ensures.its_digits;
       stands = c.step.ensures.stands;
       within = point_wider (512 * i + 512) (512 * (i + 1)) next.motion.shift (omega arith) (c.step.ensures.within (512 * i) inv.within);
       ahead = (

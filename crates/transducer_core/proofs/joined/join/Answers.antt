@@ -1,4 +1,5 @@
-use Rattle.std.proofs.Common.{◌≡◌, List, ℕ, [], ◌∷◌, ◌++◌, map, take, Some, sym, ap, ◌∙◌}
+use Rattle.std.proofs.Common.{◌≡◌, List, ℕ, [], ◌∷◌, ◌++◌, map, take, Some, sym, ap, ◌∙◌, arith, rules}
+use Rattle.std.proofs.lemmas.Grind.{common_steps}
 use Rattle.std.specs.List.{slice_get}
 use Rattle.theory_addresses.specs.Tables.{KindTables}
 use Rattle.theory_addresses.proofs.Ranges.{slice_get-image}
@@ -56,3 +57,18 @@ loop-row-2-preserved c =
     c.row-item-in-loop-row-2.result.children.items c.add-in-loop-row-2.new.joined.items.items
     c.add-in-loop-row-2.new.joined.ends.items there
     (c.in_ok-add-4.ensures (front ++ take c.loop-row-2.row-index (map (λ (k : KindTables). k.children) kinds)) c.loop-row-2.invariant)
+
+pub loop-row-2-init : goal.loop-row-2-init
+loop-row-2-init c = grind (arith, common_steps)
+
+pub returns : goal.returns
+returns c = grind (arith, common_steps)
+
+pub loop-row-init : goal.loop-row-init
+loop-row-init c = grind (arith, common_steps)
+
+pub returns-in_err-add-4 : goal.returns-in_err-add-4
+returns-in_err-add-4 c = search rules fits 100
+
+pub returns-in_err-add-3 : goal.returns-in_err-add-3
+returns-in_err-add-3 c = search rules fits 100

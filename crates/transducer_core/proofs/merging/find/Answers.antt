@@ -77,3 +77,6 @@ returns-clause-none c = λ kept block h among.
       c.loop-end-test.false,
     )) in
     (c.loop-end.invariant kept block h).fresh (rw whole among)
+
+pub loop-end-init : goal.loop-end-init
+loop-end-init c = omega arith

@@ -1,4 +1,5 @@
 use Rattle.std.proofs.Common.{◌≡◌, ◌<◌, List, ℕ, length, map, take, ap, arith, length-append}
+use Rattle.std.proofs.lemmas.Grind.{elements, common_steps}
 use Rattle.std.proofs.lemmas.List.{length-take, length-map}
 use Rattle.transducer_core.proofs.Standing
 use Rattle.transducer_core.proofs.Strides
@@ -48,3 +49,9 @@ loop-row-preserved c =
             c.len-in-loop-row.ensures,
           )) pad.3 c.loop-row.invariant.filled);
     }
+
+pub returns-clause-spread : goal.returns-clause-spread
+returns-clause-spread c = grind (arith, elements)
+
+pub returns-clause-filled : goal.returns-clause-filled
+returns-clause-filled c = grind (arith, common_steps)

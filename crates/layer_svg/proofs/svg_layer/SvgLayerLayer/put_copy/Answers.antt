@@ -1,4 +1,5 @@
 use Rattle.std.proofs.Common.{◌≡◌, ◌++◌, false, length, ap, ◌∙◌, arith, rules}
+use Rattle.std.proofs.lemmas.Grind.{common_steps}
 use Rattle.std.proofs.lemmas.List.{with_items_is}
 use Rattle.std.proofs.lemmas.List.Elements.{All-same}
 use Rattle.layer_api.specs.SvgText.{head_text}
@@ -45,3 +46,18 @@ returns-clause-ok c =
           (c.as_bytes.ensures ∙ ap (λ t. t.line) w.self-inside-is ∙ c.put_path.ensures.path)
           (c.in_ok-extend_from_slice.ensures.items ∙ ap (λ t. t.text.items ++ line) w.self-inside-is))
     ]
+
+pub returns-clause-err : goal.returns-clause-err
+returns-clause-err c = grind (arith, common_steps)
+
+pub returns-clause-seen : goal.returns-clause-seen
+returns-clause-seen c = grind (arith, common_steps)
+
+pub returns-clause-begun : goal.returns-clause-begun
+returns-clause-begun c = grind (arith, common_steps)
+
+pub returns-clause-open : goal.returns-clause-open
+returns-clause-open c = grind (arith, common_steps)
+
+pub returns-clause-form : goal.returns-clause-form
+returns-clause-form c = grind (arith, common_steps)

@@ -1,4 +1,5 @@
-use Rattle.std.proofs.Common.{◌∙◌}
+use Rattle.std.proofs.Common.{◌∙◌, arith}
+use Rattle.std.proofs.lemmas.Grind.{common_steps, elements}
 use Rattle.std.proofs.lemmas.Result.{IfOk-weaker}
 use Rattle.cyclo_points.specs.Point.{point_in}
 use Rattle.rule_model.specs.Tiling.{tiling_of}
@@ -107,3 +108,15 @@ loop-self-preserved c =
     one_out c.loop-self.invariant c.in_ok-is_inside.ensures.none_refused
     (c.in_ok-is_inside.ensures.holds ∙ c.if-branch.false) c.checked.ensures.accepted c.next_out.new.self c.in_ok-ancestor.ancestor
     c.next_out.ensures.frame c.in_ok-ancestor.ensures.next
+
+pub tile_in-requires-clause-holds : goal.tile_in-requires-clause-holds
+tile_in-requires-clause-holds c = grind (arith, common_steps)
+
+pub returns-in_err-ancestor-clause-only_tile : goal.returns-in_err-ancestor-clause-only_tile
+returns-in_err-ancestor-clause-only_tile c = grind (arith, elements)
+
+pub returns-in_err-ancestor-clause-shift_within : goal.returns-in_err-ancestor-clause-shift_within
+returns-in_err-ancestor-clause-shift_within c = grind (arith, elements)
+
+pub returns-in_err-ancestor-clause-held : goal.returns-in_err-ancestor-clause-held
+returns-in_err-ancestor-clause-held c = grind (arith, elements)

@@ -1,4 +1,5 @@
 use Rattle.std.proofs.Common.{◌≡◌, ℕ, ◌+◌, ◌<◌, inl, inr, true, false, List, length, refl, sym, ap, ◌∙◌, subst, arith}
+use Rattle.std.proofs.lemmas.Grind.{common_steps}
 use Rattle.std.proofs.lemmas.Bool.{cases_lt}
 use Rattle.theory_addresses.specs.Across.{IsAcross, LiesOn}
 use Rattle.theory_addresses.specs.Address.{Fits}
@@ -142,3 +143,15 @@ returns-in-Err-clause-limit_exactly g c = (λ e. at_64, λ on. refl)
           along = part_along (tiling_of c.args.machine.now) (address_of c.loop-back.tile) c.args.edge
               c.in_default.field-0.edge c.in_default.field-0.part c.in_default.ensures.outside_on_boundary;
         }))
+
+pub loop-back-init : goal.loop-back-init
+loop-back-init g c = grind (arith, common_steps)
+
+pub cross_in_place-requires-clause-edge_exists : goal.cross_in_place-requires-clause-edge_exists
+cross_in_place-requires-clause-edge_exists g c = grind (arith, common_steps)
+
+pub raise-requires-in-Ok-grow : goal.raise-requires-in-Ok-grow
+raise-requires-in-Ok-grow g c = grind (arith, common_steps)
+
+pub returns-in-Err-clause-frame : goal.returns-in-Err-clause-frame
+returns-in-Err-clause-frame g c = grind (arith, common_steps)

@@ -1,4 +1,5 @@
 use Rattle.std.proofs.Common.{◌≡◌, ◌∙◌, ◌≤◌, ℕ, map, length, ap, sym, subst, arith, get_or}
+use Rattle.std.proofs.lemmas.Grind.{common_steps}
 use Rattle.std.proofs.Math.ListN.{get_or-map}
 use Rattle.std.proofs.lemmas.List.{length-map}
 use Rattle.theory_addresses.specs.Search.{IsAmong}
@@ -79,3 +80,9 @@ invariant_of-result c =
     subst (λ (t : Tables). IsMachine t c.some_meets_itself-meets_itself.result
     (map as_node c.in_ok-nodes.nodes.items) c.loop-node.numbers.items
     (map (λ r. map as_row_pair r.items) c.loop-node.rows.list.items)) (sym c.in_ok-copy.ensures) made
+
+pub loop-node-init : goal.loop-node-init
+loop-node-init c = grind (arith, common_steps)
+
+pub returns : goal.returns
+returns c = grind (arith, common_steps)

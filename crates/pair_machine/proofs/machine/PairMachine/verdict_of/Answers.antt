@@ -1,4 +1,5 @@
-use Rattle.std.proofs.Common.{◌∙◌, map, sym, subst, ap}
+use Rattle.std.proofs.Common.{◌∙◌, map, sym, subst, ap, arith}
+use Rattle.std.proofs.lemmas.Grind.{common_steps}
 use Rattle.tile_shape.specs.Views.{address_of}
 use Rattle.theory_addresses.specs.Coherent.{IsCoherent}
 use Rattle.pair_machine.specs.Between.{IsBetween, IsInOrder}
@@ -31,3 +32,9 @@ returns c =
       subst (IsBetween c.args.self.now (address_of c.args.a.now) (address_of c.args.b.now)) (sym c.into_pairs-pairs.ensures.pairs) between,
       λ none. let yes = c.are_none.ensures.1 (sym c.into_pairs-pairs.ensures.pairs ∙ ap (map as_pair) none) in absurd cc,
     )
+
+pub returns-then-not-have_common : goal.returns-then-not-have_common
+returns-then-not-have_common c = grind (arith, common_steps)
+
+pub returns-then-are_same : goal.returns-then-are_same
+returns-then-are_same c = grind (arith, common_steps)

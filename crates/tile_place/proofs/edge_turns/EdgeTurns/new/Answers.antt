@@ -44,3 +44,12 @@ returns c =
           c.loop-place.invariant.each k e hk he (subst (λ n. k * sides + e < n) (sym total)
           (in-row sides k e (length t.rule.kinds) hk (omega (arith, he, some, same))));
     }
+
+pub nonzero_div-kind : goal.nonzero_div-kind
+nonzero_div-kind c = grind arith
+
+pub overflow_cast-kind : goal.overflow_cast-kind
+overflow_cast-kind c = grind arith
+
+pub nonzero_rem-edge : goal.nonzero_rem-edge
+nonzero_rem-edge c = grind arith

@@ -1,4 +1,4 @@
-use Rattle.std.proofs.Common.{◌≡◌, Err, sym, ap, subst}
+use Rattle.std.proofs.Common.{◌≡◌, Err, sym, ap, subst, arith}
 use Rattle.theory_addresses.specs.Address.{Address}
 use Rattle.rule_model.specs.Tiling.{tiling_of, contacts}
 use Rattle.tile_shape.specs.Views.{address_of}
@@ -34,3 +34,9 @@ returns-in-Err-clause-boundary_is_outside g c = λ own part lies.
 pub returns-in-Ok-clause-inside : goal.returns-in-Ok-clause-inside
 returns-in-Ok-clause-inside g c = λ own lies.
     c.in-Ok.ensures.inside own (subst (λ (a : Address). LiesAlong (tiling_of c.args.self.now) a c.args.edge own) (sym c.put_digits.ensures.seen) lies)
+
+pub returns-in-Ok-clause-only_tile_across : goal.returns-in-Ok-clause-only_tile_across
+returns-in-Ok-clause-only_tile_across g c = grind arith
+
+pub returns-in-Err-clause-outside_on_boundary : goal.returns-in-Err-clause-outside_on_boundary
+returns-in-Err-clause-outside_on_boundary g c = grind arith

@@ -1,4 +1,5 @@
-use Rattle.std.proofs.Common.{◌≡◌, ◌∙◌, ℕ, refl, Result, Ok, Err, IfOk, OnErr, IsSome, List, map, sym, ap, subst}
+use Rattle.std.proofs.Common.{◌≡◌, ◌∙◌, ℕ, refl, Result, Ok, Err, IfOk, OnErr, IsSome, List, map, sym, ap, subst, arith}
+use Rattle.std.proofs.lemmas.Grind.{common_steps}
 use Rattle.theory_addresses.specs.Address.{Address, Fits}
 use Rattle.theory_addresses.specs.Across.{IsAcross}
 use Rattle.theory_addresses.specs.Tables.{Tables, child_kinds, type_of}
@@ -130,3 +131,6 @@ returns-clause-inside g c =
     { kind = c.args.kind.now; digits = map step_of c.args.digits.now }) c.args.edge c.requires.edge.fits
     c.requires.edge.exists
     (boundaries g c) (contacts (tiling_of c.args.self.now)) refl c.step_across_digits.result (crossed g c).boundary_when
+
+pub step_across_digits-requires-clause-no_deeper : goal.step_across_digits-requires-clause-no_deeper
+step_across_digits-requires-clause-no_deeper g c = grind (arith, common_steps)

@@ -1,4 +1,4 @@
-use Rattle.std.proofs.Common.{◌+◌, ◌-◌, ◌/◌, ◌%◌, ◌<◌, ◌∙◌, sym, ap, subst}
+use Rattle.std.proofs.Common.{◌+◌, ◌-◌, ◌/◌, ◌%◌, ◌<◌, ◌∙◌, sym, ap, subst, arith, rules}
 use Rattle.cyclo_points.specs.Order.{PointsLaw, points_of}
 use Rattle.theory_dissection.specs.Glue.{TurnsOnto}
 use Rattle.rule_model.specs.declared.rule.Rule.{Rule}
@@ -32,3 +32,15 @@ returns-clause-turns c =
     subst (λ i. TurnsOnto (points_of m.order) (rule_of m) k e l f ((b + (i / 2 + i - a)) % i)) (sym n)
     (turns_onto m law k e l f a b c.edge_turn.ensures c.edge_turn-2.ensures
     (one_vector m law k e l f a b c.edge_turn.ensures c.edge_turn-2.ensures c.requires.meets))
+
+pub checked-requires : goal.checked-requires
+checked-requires c = grind arith
+
+pub overflow_sub-back : goal.overflow_sub-back
+overflow_sub-back c = grind arith
+
+pub overflow_add-result : goal.overflow_add-result
+overflow_add-result c = search rules fits 100
+
+pub nonzero_rem-result : goal.nonzero_rem-result
+nonzero_rem-result c = grind arith

@@ -1,4 +1,5 @@
 use Rattle.std.proofs.Common.{◌+◌, ◌<◌, length, drop, IfSome, ◌&&◌, sym, ap, ◌∙◌, subst, arith}
+use Rattle.std.proofs.lemmas.Grind.{common_steps}
 use Rattle.std.specs.Option.{option_map}
 use Rattle.theory_substitution.specs.Motion.{still}
 use Rattle.theory_substitution.specs.Rule.{Child, children_of}
@@ -53,3 +54,27 @@ loop-number-preserved c =
           c.in_ok-seen.ensures.is_part);
       all = c.loop-number.invariant.all;
     }
+
+pub child_count-count-requires : goal.child_count-count-requires
+child_count-count-requires c = grind (arith, common_steps)
+
+pub overflow_cast-number : goal.overflow_cast-number
+overflow_cast-number c = omega arith
+
+pub returns-in_err-seen-clause-held : goal.returns-in_err-seen-clause-held
+returns-in_err-seen-clause-held c = grind (arith, common_steps)
+
+pub returns-in_err-seen-clause-is_part : goal.returns-in_err-seen-clause-is_part
+returns-in_err-seen-clause-is_part c = grind (arith, common_steps)
+
+pub returns-in_err-seen-clause-none_refused : goal.returns-in_err-seen-clause-none_refused
+returns-in_err-seen-clause-none_refused c = grind (arith, common_steps)
+
+pub returns-in_err-seen-clause-limit_in_order : goal.returns-in_err-seen-clause-limit_in_order
+returns-in_err-seen-clause-limit_in_order c = grind (arith, common_steps)
+
+pub returns-clause-held : goal.returns-clause-held
+returns-clause-held c = grind (arith, common_steps)
+
+pub returns-clause-none_refused : goal.returns-clause-none_refused
+returns-clause-none_refused c = grind (arith, common_steps)

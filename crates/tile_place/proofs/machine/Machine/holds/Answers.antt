@@ -1,4 +1,5 @@
-use Rattle.std.proofs.Common.{◌≡◌, ℤ, pos, ◌+ℤ◌, ◌+◌, ◌<◌, ◌^◌, length, [], map, drop, find, None, Some, sym, ap, ◌∙◌, subst, lit≤, arith, w8, w32, to_z, of_z}
+use Rattle.std.proofs.Common.{◌≡◌, ℤ, pos, ◌+ℤ◌, ◌+◌, ◌<◌, ◌^◌, length, [], map, drop, find, None, Some, sym, ap, ◌∙◌, subst, lit≤, arith, w8, w32, to_z, of_z, rules}
+use Rattle.std.proofs.lemmas.Grind.{common_steps}
 use Rattle.std.proofs.lemmas.Int.{ints}
 use Rattle.cyclo_points.specs.Order.{points_of, is_refused}
 use Rattle.cyclo_points.specs.Point.{point_in}
@@ -203,3 +204,45 @@ returns-clause-none_refused c =
     (sym c.loop-i.invariant.refused ∙ none_left (is_refused c.args.order)
     (corner_of c.args.order c.args.scale.now c.args.at.now) c.vertices-vertices.result.now c.loop-i.i
     c.loop-i-test.false)
+
+pub corner-requires-clause-shift_within : goal.corner-requires-clause-shift_within
+corner-requires-clause-shift_within c = search rules fits 100
+
+pub corner-requires-clause-shift_in_order : goal.corner-requires-clause-shift_in_order
+corner-requires-clause-shift_in_order c = grind arith
+
+pub returns-in_err-first-clause-holds : goal.returns-in_err-first-clause-holds
+returns-in_err-first-clause-holds c = grind (arith, common_steps)
+
+pub returns-in_err-first-clause-none_refused : goal.returns-in_err-first-clause-none_refused
+returns-in_err-first-clause-none_refused c = grind (arith, common_steps)
+
+pub returns-in_err-first-clause-limit_in_order : goal.returns-in_err-first-clause-limit_in_order
+returns-in_err-first-clause-limit_in_order c = grind arith
+
+pub corner-requires-in-loop-i-clause-shift_within : goal.corner-requires-in-loop-i-clause-shift_within
+corner-requires-in-loop-i-clause-shift_within c = search rules fits 100
+
+pub corner-requires-in-loop-i-clause-shift_in_order : goal.corner-requires-in-loop-i-clause-shift_in_order
+corner-requires-in-loop-i-clause-shift_in_order c = grind arith
+
+pub returns-in_err-to-clause-holds : goal.returns-in_err-to-clause-holds
+returns-in_err-to-clause-holds c = grind arith
+
+pub returns-in_err-to-clause-none_refused : goal.returns-in_err-to-clause-none_refused
+returns-in_err-to-clause-none_refused c = grind arith
+
+pub returns-in_err-to-clause-limit_in_order : goal.returns-in_err-to-clause-limit_in_order
+returns-in_err-to-clause-limit_in_order c = grind arith
+
+pub crossing_between-crossed-requires-clause-starts : goal.crossing_between-crossed-requires-clause-starts
+crossing_between-crossed-requires-clause-starts c = grind arith
+
+pub crossing_between-crossed-requires-clause-ends : goal.crossing_between-crossed-requires-clause-ends
+crossing_between-crossed-requires-clause-ends c = grind arith
+
+pub crossing_between-crossed-requires-2-clause-starts : goal.crossing_between-crossed-requires-2-clause-starts
+crossing_between-crossed-requires-2-clause-starts c = grind arith
+
+pub crossing_between-crossed-requires-2-clause-ends : goal.crossing_between-crossed-requires-2-clause-ends
+crossing_between-crossed-requires-2-clause-ends c = grind arith

@@ -1,4 +1,4 @@
-use Rattle.std.proofs.Common.{◌≡◌, ◌*◌, ◌^◌, find, sym, ap, ◌∙◌, subst, lit≤}
+use Rattle.std.proofs.Common.{◌≡◌, ◌*◌, ◌^◌, find, sym, ap, ◌∙◌, subst, lit≤, arith}
 use Rattle.cyclo_points.specs.Order.{is_refused}
 use Rattle.cyclo_points.specs.Point.{point_in, IsOf}
 use Rattle.rule_model.specs.declared.rule.Rule.{Rule}
@@ -74,3 +74,9 @@ returns-clause-none_refused c =
     (c.compose-motion.ensures.in_order (subst (λ q. IsOf q c.args.at.now.shift) (sym same)
     c.requires.moves.in_order)))) ∙ c.if-refused.false)
     ∙ c.in_ok-holds.ensures.none_refused
+
+pub compose-motion-requires-clause-g_below_order : goal.compose-motion-requires-clause-g_below_order
+compose-motion-requires-clause-g_below_order c = grind arith
+
+pub holds_where-requires-clause-moves : goal.holds_where-requires-clause-moves
+holds_where-requires-clause-moves c = grind arith

@@ -1,4 +1,4 @@
-use Rattle.std.proofs.Common.{◌≡◌, ◌^◌, [], find, None, Some, sym, ap, ◌∙◌, subst, lit≤}
+use Rattle.std.proofs.Common.{◌≡◌, ◌^◌, [], find, None, Some, sym, ap, ◌∙◌, subst, lit≤, arith}
 use Rattle.cyclo_points.specs.Order.{is_refused}
 use Rattle.cyclo_points.specs.Point.{point_in, IsOf}
 use Rattle.rule_model.specs.declared.rule.Rule.{Rule}
@@ -58,3 +58,15 @@ returns-clause-none_refused c =
     (sym c.loop-i.invariant.refused ∙ none_left (is_refused c.args.order)
     (corner_of c.args.order c.args.scale.now c.args.at.now) c.vertices-vertices.result.now c.loop-i.i
     c.loop-i-test.false)
+
+pub loop-i-init : goal.loop-i-init
+loop-i-init c = grind arith
+
+pub corner-requires-clause-shift_within : goal.corner-requires-clause-shift_within
+corner-requires-clause-shift_within c = grind arith
+
+pub returns-in_err-corner-clause-is_false : goal.returns-in_err-corner-clause-is_false
+returns-in_err-corner-clause-is_false c = grind arith
+
+pub returns-in_err-corner-clause-none_refused : goal.returns-in_err-corner-clause-none_refused
+returns-in_err-corner-clause-none_refused c = grind arith

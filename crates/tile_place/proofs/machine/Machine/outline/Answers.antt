@@ -1,4 +1,4 @@
-use Rattle.std.proofs.Common.{◌≡◌, All, ◌+◌, ◌*◌, ◌^◌, ◌++◌, [], map, drop, get_or, find, None, Some, sym, ap, ◌∙◌, subst, lit≤}
+use Rattle.std.proofs.Common.{◌≡◌, All, ◌+◌, ◌*◌, ◌^◌, ◌++◌, [], map, drop, get_or, find, None, Some, sym, ap, ◌∙◌, subst, lit≤, arith}
 use Rattle.cyclo_points.specs.Order.{is_refused}
 use Rattle.cyclo_points.specs.Point.{point_in, IsOf, IsWithin}
 use Rattle.rule_model.specs.declared.rule.Rule.{Rule}
@@ -117,3 +117,12 @@ returns-clause-in_order c =
     let same : c.order-order.result ≡ c.args.self.now.order = c.order-order.ensures.order
     ∙ ap (λ (r : Rule). r.order) c.checked-checked.ensures.rule in
     subst (λ q. All (IsOf q) c.loop-vertex.corners.items) same c.loop-vertex.invariant.in_order
+
+pub loop-vertex-init : goal.loop-vertex-init
+loop-vertex-init c = grind arith
+
+pub push-requires : goal.push-requires
+push-requires c = grind arith
+
+pub returns-clause-at_least_3 : goal.returns-clause-at_least_3
+returns-clause-at_least_3 c = grind arith

@@ -1,4 +1,4 @@
-use Rattle.std.proofs.Common.{◌≡◌, ◌+◌, ◌-◌, ◌++◌, ◌^◌, All, [], ◌∷◌, length, map, find, None, Some, sym, ap, ◌∙◌, subst, arith, lit≤}
+use Rattle.std.proofs.Common.{◌≡◌, ◌+◌, ◌-◌, ◌++◌, ◌^◌, All, [], ◌∷◌, length, map, find, None, Some, sym, ap, ◌∙◌, subst, arith, lit≤, rules}
 use Rattle.std.proofs.lemmas.List.{append-nil}
 use Rattle.std.proofs.lemmas.List.Elements.{All-nil, All-push}
 use Rattle.theory_frames.specs.Looked.{powers_from}
@@ -90,3 +90,12 @@ returns-clause-none_refused c =
     c.order-order.ensures.order c.checked-checked.ensures.rule c.factor-factor.ensures.factor
     (sym c.loop-i.invariant.first ∙ ap (λ n. find (is_refused o)
     (powers_from (points_of o) (point_in o c.factor-factor.result) (c.loop-i.i + 1) n)) none)
+
+pub checked-checked-requires : goal.checked-checked-requires
+checked-checked-requires c = omega arith
+
+pub mul-power-requires-clause-p_within : goal.mul-power-requires-clause-p_within
+mul-power-requires-clause-p_within c = search rules fits 100
+
+pub returns-then-refused-clause-limit_in_order : goal.returns-then-refused-clause-limit_in_order
+returns-then-refused-clause-limit_in_order c = grind arith

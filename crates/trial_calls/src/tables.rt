@@ -1,0 +1,46 @@
+//! The tables of calls, walked in turn. The long ones have tests of their own, for their time.
+use crate::calls::note_rows;
+use crate::files::{self, LONG_FILES};
+use crate::foreign::{LISTINGS, LONG_LISTINGS, note_different_tiles};
+use crate::hostile;
+use crate::notes::note_notes;
+use crate::rows::ROWS;
+use crate::scripts::{LONG_SCRIPTS, SCRIPTS};
+use crate::words::note_words;
+use crate::wrong::Wrong;
+use std::alloc::Global;
+
+/// The first row that comes out otherwise.
+fn first_wrong(alloc: Global) -> Wrong {
+    let mut wrong = Wrong::default();
+    note_rows(alloc, &mut wrong, "rows", &ROWS);
+    note_rows(alloc, &mut wrong, "scripts", &SCRIPTS);
+    note_rows(alloc, &mut wrong, "listings", &LISTINGS);
+    files::note_files(alloc, &mut wrong);
+    hostile::note_files(alloc, &mut wrong);
+    note_notes(alloc, &mut wrong);
+    note_words(alloc, &mut wrong);
+    wrong
+}
+
+#[test]
+fn tables(rt: HostRuntime) {
+    let wrong = first_wrong(rt.alloc());
+    assert_eq!(rt; wrong.name, "", "row {}", wrong.row);
+}
+
+#[test]
+fn long_files(rt: HostRuntime) {
+    let mut wrong = Wrong::default();
+    note_rows(rt.alloc(), &mut wrong, "long scripts", &LONG_SCRIPTS);
+    note_rows(rt.alloc(), &mut wrong, "long files", &LONG_FILES);
+    assert_eq!(rt; wrong.name, "", "row {}", wrong.row);
+}
+
+#[test]
+fn long_listings(rt: HostRuntime) {
+    let mut wrong = Wrong::default();
+    note_rows(rt.alloc(), &mut wrong, "long listings", &LONG_LISTINGS);
+    note_different_tiles(rt.alloc(), &mut wrong);
+    assert_eq!(rt; wrong.name, "", "row {}", wrong.row);
+}

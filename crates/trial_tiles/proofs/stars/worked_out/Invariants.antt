@@ -1,4 +1,0 @@
-use Rattle.trial_tiles.proofs.stars.worked_out.Given as goal
-
-abbrev pub ghosts-star_text : goal.ghosts-star_text
-ghosts-star_text g a = record { name = a.blank.name; parts = a.blank.parts }

@@ -1,0 +1,70 @@
+// The card about a tile: its address, its neighbours, and the star at its nearest corner.
+import { tileName, tilingNamed } from "./catalogue.js";
+import { byId, copyText, drawing, element, withSign } from "./page.js";
+
+/** A text of the engine, which may be broken in lines after its commas. */
+const code = (text) => element(
+    "code", {}, ...text.split(/(?<=[,+])/).flatMap((part, i) => (i ? [element("wbr"), part] : [part])));
+
+export class TileCard {
+  constructor(app) {
+    this.app = app;
+    this.element = byId("tile");
+    byId("tile").querySelector(".close").addEventListener("click", () => app.keep(null));
+    byId("tile").addEventListener("keydown", (event) => event.key === "Escape" && app.keep(null));
+  }
+
+  /** Shows a tile that is kept, else one that is pointed at, else nothing. */
+  show(kept, pointed) {
+    const tile = kept ?? pointed;
+    this.element.hidden = !tile;
+    this.element.classList.toggle("brief", !kept);
+    this.element.setAttribute("aria-live", kept ? "polite" : "off");
+    if (!tile) return;
+    byId("tile-title").textContent = tileName(this.app.state.tiling, tile.kind, this.app.state.isWhole);
+    byId("tile-body").replaceChildren(
+        this.facts(tile), ...(kept ? [this.neighbours(tile), ...this.star(tile)] : []));
+  }
+
+  facts(tile) {
+    const { order } = this.app.told, degrees = (360 * tile.turn) / order;
+    const facts = [["Address", code(tile.name)], ["Turn", `${tile.turn} of ${order}, which is ${degrees}°`],
+        ["Position", code(tile.shift.join())]];
+    return element("dl", { class: "facts" },
+        ...facts.flatMap(([name, value]) => [element("dt", {}, name), element("dd", {}, value)]));
+  }
+
+  neighbours({ edges }) {
+    const rows = edges.flatMap((edge, number) =>
+        [element("dt", {}, `Edge ${number}`), element("dd", {}, edge ? this.link(edge) : "not known here")]);
+    return element("div", { class: "more" }, element("h3", {}, "Across its edges"),
+        element("dl", { class: "facts" }, ...rows));
+  }
+
+  link({ name, middle }) {
+    return element("button", { class: "link", onclick: () => this.app.goToTile(middle) }, code(name));
+  }
+
+  star({ star, name, corner }) {
+    if (!star) return [];
+    const { app } = this, colours = app.coloursNow(), tiles = withSign(star.tiles.length, "tile");
+    const picture = drawing(star.tiles.map((it) => ({ ...it, colour: colours[it.class % colours.length] })),
+        star.place, `a star of ${tiles}`);
+    const words = element("p", {}, `${tiles} meet at the nearest corner, the point `,
+        code(star.point.join()));
+    const parts = [element("h3", {}, "Star"), element("div", { class: "star-here" }, picture, words)];
+    if (!name.includes(" + ")) parts.push(this.starCommand(name, corner));
+    return [element("div", { class: "more" }, ...parts)];
+  }
+
+  /** The command that lists the star; a tile of one part has the same corners there. */
+  starCommand(name, corner) {
+    const { rule, file } = this.app.ruleWords();
+    const words = `star rule=${rule} seed=${this.app.state.seed} addr=${name} vertex=${corner}`;
+    const command = `./tiling ${words}${file ? ` < ${file}` : ""}`;
+    return element("p", { class: "command" }, code(command), " ",
+        element("button", { class: "link", onclick: () => copyText(command, "Command") }, "Copy"));
+  }
+}
+
+

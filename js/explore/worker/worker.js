@@ -1,0 +1,129 @@
+// The worker: it has the engine, and answers the questions of the page. A question is { id, ask, .. }; its
+// answer is
+// { id, value }, or { id, fault } where the engine refuses.
+import { Engine } from "../../pagnetuf.js";
+import { Drawable } from "./tilings.js";
+import { supertileAt, tileAt } from "./near.js";
+import { paint } from "./painter.js";
+import { starsIn } from "./stars.js";
+import { boardOf, commandOf, pngOf, svgOf } from "./files.js";
+import { faultPicture, rulePicture } from "./rule-picture.js";
+
+let engine = null; // a promise of it
+const rules = new Map(); // by name: the text of the rule file, and the name by which the rule is built in
+const opened = new Map();
+
+/** The tiling that a look names. */
+async function drawableOf(name) {
+  if (!opened.has(name)) {
+    const { file, builtIn } = rules.get(name);
+    opened.set(name, new Drawable(name, (await engine).open(builtIn ?? file)));
+  }
+  return opened.get(name);
+}
+
+const questions = {
+  /** The engine as the page has it, and the rules that there are. */
+  begin({ engine: packed, rules: given }) {
+    engine = bytesOf(packed).then((bytes) => Engine.load(bytes));
+    for (const { name, ...rule } of given) rules.set(name, rule);
+  },
+
+  async open({ name }) {
+    return (await drawableOf(name)).told();
+  },
+
+  /** A rule file of the reader's own: what `open` answers, or its fault with a picture. */
+  async openFile({ name, bytes }) {
+    const file = new TextDecoder().decode(bytes);
+    try {
+      const drawable = new Drawable(name, (await engine).open(bytes));
+      opened.set(name, drawable);
+      rules.set(name, { file });
+      return { told: drawable.told() };
+    } catch (refusal) {
+      if (!refusal.status) throw refusal;
+      const words = refusal.line.split(" ").slice(2);
+      return { refused: { ...toldRefusal(refusal), ...faultPicture(file, words) } };
+    }
+  },
+
+  /** The picture of a rule. */
+  rulePicture({ name }) {
+    return rulePicture(rules.get(name).file);
+  },
+
+  /** How many stars there are. */
+  async starCount({ look }) {
+    return (await drawableOf(look.tiling)).starsOf(look.isWhole).size;
+  },
+
+  async paint({ look, part }) {
+    const drawable = await drawableOf(look.tiling), began = performance.now();
+    const { canvas, tiles } = paint(drawable, look, part), bitmap = canvas.transferToImageBitmap();
+    return { bitmap, tiles, spent: performance.now() - began };
+  },
+
+  async tileAt({ look, where }) {
+    return tileAt(await drawableOf(look.tiling), look, where);
+  },
+
+  async supertileAt({ look, where }) {
+    return supertileAt(await drawableOf(look.tiling), look, where);
+  },
+
+  async stars({ look, view }) {
+    return starsIn(await drawableOf(look.tiling), look, view);
+  },
+
+  async command({ look, view }) {
+    return commandOf(await drawableOf(look.tiling), look, view);
+  },
+
+  async svg({ look, view }) {
+    return svgOf(await drawableOf(look.tiling), look, view);
+  },
+
+  async png({ look, part }) {
+    return pngOf(await drawableOf(look.tiling), look, part);
+  },
+
+  async board({ look, where }) {
+    return boardOf(await drawableOf(look.tiling), look, where);
+  },
+
+  /** The first of some points around which the tiling has an answer, or null. */
+  async firstOf({ look, points }) {
+    const { tiling } = await drawableOf(look.tiling);
+    return points.find((at) => isAnswered(
+        () => tiling.window({ ...look, at, half: [2, 2], addresses: false }))) ?? null;
+  },
+};
+
+/** The bytes of a text in base 64, which may be packed by gzip. The browser's own reader is the fastest. */
+async function bytesOf({ text, isPacked }) {
+  const { body } = await fetch(`data:application/octet-stream;base64,${text.trim()}`);
+  return new Response(isPacked ? body.pipeThrough(new DecompressionStream("gzip")) : body).arrayBuffer();
+}
+
+function isAnswered(ask) {
+  try {
+    ask();
+    return true;
+  } catch (refusal) {
+    if (refusal.status) return false;
+    throw refusal;
+  }
+}
+
+const toldRefusal = ({ name, status, line, message }) => ({ name, status, line, message });
+
+self.onmessage = async ({ data }) => {
+  try {
+    const value = await questions[data.ask](data);
+    self.postMessage({ id: data.id, value }, value?.bitmap ? [value.bitmap] : []);
+  } catch (fault) {
+    const told = fault.status ? toldRefusal(fault) : { name: fault.name, message: fault.message };
+    self.postMessage({ id: data.id, fault: told });
+  }
+};
