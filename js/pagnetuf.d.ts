@@ -165,6 +165,10 @@ export declare class Tiling {
   shape(kind: number, turn?: number): Float64Array;
   /** x and y of exact points: from 4 numbers each, 2 each. */
   xy(points: ArrayLike<number>): Float64Array;
+  /** A point times zeta^turn, exactly. */
+  turnedPoint(point: PointLike, turn: number): Point;
+  /** The product of two points, exactly. */
+  product(a: PointLike, b: PointLike): Point;
   /** An exact point near x and y: within half a length in x, and half of sin(360°/order) in y. */
   pointNear(x: number, y: number): Point;
   /** The least `half` of a window at least so wide and so high, in lengths. */
@@ -176,6 +180,8 @@ export declare class Tiling {
   write(address: AddressLike): string;
   /** An address as 130 bytes; many one after the other. Refusal BadAddress. */
   bytes(address: AddressLike | readonly (string | Address)[]): Uint8Array;
+  /** The texts of addresses of 130 bytes each. */
+  texts(bytes: Uint8Array): string[];
   /** Whether it is the address of a tile of this rule. */
   fits(address: AddressLike): boolean;
 
@@ -265,6 +271,7 @@ export declare class Patch {
   readonly turns: Uint8Array;
   /** 4 n: the exact position of each tile's point 0. */
   readonly shifts: Int32Array;
+  readonly hasAddresses: boolean;
   /** 130 n: see AddressLike. A TypeError if they weren't wanted. */
   readonly addresses: Uint8Array;
   /** The text of a tile's address; of a whole tile of two halves both, joined by " + ". */

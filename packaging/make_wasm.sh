@@ -49,7 +49,7 @@ keep_module() {
     [ -s "$work/module.bc" ] || { say 'rattle handed no module to clang'; return 1; }
 }
 
-flags='--target=wasm32-unknown-unknown --no-default-config -O3 -ffunction-sections -fdata-sections -mbulk-memory'
+flags='--target=wasm32-unknown-unknown --no-default-config -O2 -ffunction-sections -fdata-sections -mbulk-memory'
 # Compiles a file into an object beside it.
 compile() {
     # shellcheck disable=SC2086
@@ -66,11 +66,12 @@ keep_module
 "$clang" --target=x86_64-unknown-linux-gnu -x ir "$work/module.bc" -S -emit-llvm -O0 -Xclang -disable-llvm-passes \
     -o "$work/module.ll"
 python3 "$parts/to_wasm32.py" "$work/module.ll" "$work/engine.ll" >&2
-python3 "$parts/make_shim.py" "$top/include/tiling.h" > "$work/shim.c"
+python3 "$parts/make_shim.py" "$top/include/tiling.h" "$work/engine.ll" > "$work/shim.ll"
+cat "$work/shim.ll" >> "$work/engine.ll"
 compile -mllvm -trap-unreachable -c -x ir "$work/engine.ll" -o "$work/engine.o"
-for part in "$parts/heap.c" "$parts/int128.c" "$work/shim.c"; do
-    compile -std=c11 -Wall -Werror -Wno-int-to-pointer-cast -Wno-parentheses -ffreestanding -fno-builtin -c "$part" \
-        -o "$work/$(basename "$part" .c).o"
+for part in heap int128; do
+    compile -std=c11 -Wall -Werror -Wno-int-to-pointer-cast -Wno-parentheses -ffreestanding -fno-builtin \
+        -c "$parts/$part.c" -o "$work/$part.o"
 done
 link
 mv "$work/tiling.wasm" "$folder/tiling.wasm"

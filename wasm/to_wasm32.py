@@ -9,11 +9,14 @@ No line of code is changed, except as follows.
 - A pointer keeps its place of 8 bytes in memory, and uses the low 4, since the library's layout is in bytes. So a
   constant with pointers gets 4 bytes of zeros after each, and a load of a pair with a pointer is written as two loads.
 - `ptrtoaddr` becomes `ptrtoint`, its name on this target.
+- The functions of include/tiling.h are internal, since wasm/make_shim.py exports others, which call them. And a function
+  that is called at just one place is always inlined there, which makes the module smaller and its calls faster.
 
 It ends with 1 at any form that says how wide a pointer is and isn't known here. Nothing proves it: checks/wasm.sh
 compares what the module and the native library answer, byte for byte."""
 import re
 import sys
+from collections import Counter
 
 LAYOUT = "e-m:e-p:32:32-p10:8:8-p20:8:8-i64:64-i128:128-n32:64-S128-ni:1:10:20"
 OF_X86 = re.compile(
@@ -22,6 +25,8 @@ OF_X86 = re.compile(
 PACKED = re.compile(r"^(@\S+ = (?:private |internal )?(?:unnamed_addr )?(?:constant|global) )<\{ (.*?) \}> <\{ (.*) \}>(, align \d+)?$")
 PLAIN_CONSTANT = re.compile(r"(?:constant|global) (?:\[\d+ x i8\]|i\d+) ")
 PAIR = re.compile(r"^(\s+)(%\S+) = load \{ (i8|i16|i32|ptr), ptr \}, ptr (\S+), align \d+(.*)$")
+NAME = re.compile(r'@("[^"]+"|[\w.]+)')
+ATTRIBUTES = re.compile(r"^attributes #(\d+) = \{ (.*?) \}$")
 # pairs with a pointer whose second part stands at 8 on both targets
 ALIKE = re.compile(r"(?:load|store) \{ (?:ptr, i64|i64, ptr) \}")
 OF_POINTERS = re.compile(r"(?:load|store|alloca) (?:\{[^}]*\bptr\b|\[\d+ x ptr\])")
@@ -49,10 +54,14 @@ def parts(text: str):
 class Narrower:
     """Reads a module line by line, and counts what it writes out."""
 
-    def __init__(self):
-        self.constants = self.pairs = 0
+    def __init__(self, lines: list):
+        self.constants = self.pairs = self.inlined = 0
+        self.called = Counter(name for line in lines if not line.startswith("define") for name in NAME.findall(line))
+        self.groups = {text: group for line in lines for group, text in ATTRIBUTES.findall(OF_X86.sub("", line))}
 
     def line(self, line: str) -> str:
+        if line.startswith("define "):
+            return self.definition(line)
         if line.startswith("target datalayout = "):
             return f'target datalayout = "{LAYOUT}"'
         if line.startswith("target triple = "):
@@ -60,6 +69,17 @@ class Narrower:
         if line.startswith("attributes #"):
             return OF_X86.sub("", line).replace("{ }", '{ "no-attributes" }')
         return self.constant(line) if line.startswith("@") else self.code(line)
+
+    def definition(self, line: str) -> str:
+        """The first line of a function: internal, and to be inlined if it has one caller and may be."""
+        line = re.sub(r"^define (?=(?:noundef )?\w+ @tiling_\w+\()", "define internal ", line)
+        name, always = NAME.search(line)[1], self.groups.get("alwaysinline nounwind")
+        free = [self.groups.get(it) for it in ("nounwind", "inlinehint nounwind")]
+        found = re.search(r" #(\d+) \{$", line)
+        if always and found and found[1] in free and self.called[name] == 1 and line.startswith("define internal "):
+            self.inlined += 1
+            return f"{line[: found.start()]} #{always} {{"
+        return line
 
     def constant(self, line: str) -> str:
         """A constant, with 4 bytes of zeros after each pointer."""
@@ -119,11 +139,15 @@ def stop(what: str, line: str):
 
 def main():
     source, target = sys.argv[1:3]
-    narrower = Narrower()
-    with open(source, encoding="utf-8") as file, open(target, "w", encoding="utf-8") as out:
-        for line in file:
-            out.write(narrower.line(line.rstrip("\n")) + "\n")
-    print(f"to_wasm32: {narrower.constants} pointers in constants and {narrower.pairs} pairs are written out")
+    with open(source, encoding="utf-8") as file:
+        lines = file.read().splitlines()
+    narrower = Narrower(lines)
+    with open(target, "w", encoding="utf-8") as out:
+        out.writelines(narrower.line(line) + "\n" for line in lines)
+    print(
+        f"to_wasm32: {narrower.constants} pointers in constants and {narrower.pairs} pairs are written out, and"
+        f" {narrower.inlined} functions are inlined at their one place"
+    )
 
 
 main()
