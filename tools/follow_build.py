@@ -58,9 +58,11 @@ def main(words):
         raise WrongWords
     build, name = Build(*words), None
     for line in sys.stdin:
-        found = re.match(r"== (?!summary)(\S+)", line)
+        found = re.match(r"== (\S+)", line)
+        if found and name and build.is_built(name):
+            build.left.discard(name)  # it was proved before, so the prover has nothing to say of it
         name = found[1] if found else name
-        if name and line.startswith("logic=proved "):
+        if name in build.left and line.startswith("logic=proved "):
             print(f"tiling: {build.proved(name)}", file=sys.stderr, flush=True)
             name = None
 
