@@ -3,10 +3,6 @@ use crate::told::{Failing, SOUND, told};
 use crate::wrong::Wrong;
 use std::alloc::{AllocError, Global};
 
-/// A call: its words, what its source holds, the exit code that is wanted, and the lines that are printed and
-/// noted, without the last newline. In a text `«PIECE×TIMES»` is a piece repeated.
-pub type Row = (&'static str, &'static str, u8, &'static str, &'static str);
-
 /// Two chairs, as a list.
 pub const CHAIRS_LIST: &str = "0 0 0,0,0,0 0:3/0\n0 1 3,1,0,0 0:1/0\n";
 
@@ -20,10 +16,12 @@ fn put_repeated(text: &mut String, repeated: &str) -> Result<(), AllocError> {
     Ok(())
 }
 
-/// Returns a text with its pieces repeated.
-pub fn spelled(alloc: Global, text: &str) -> Result<String, AllocError> {
+/// Returns a field of a row in full: `«PIECE×TIMES»` is a piece repeated, `¶` a newline, and `␍` a return.
+pub fn spelled(alloc: Global, field: &str) -> Result<String, AllocError> {
+    let lines = field.replace(alloc, "¶", "\n")?;
+    let text = lines.replace(alloc, "␍", "\r")?;
     let mut all = String::new(alloc);
-    for part in text.split('«') {
+    for part in text.as_str().split('«') {
         let (repeated, rest) = part.split_once('»').unwrap_or(("", part));
         put_repeated(&mut all, repeated)?;
         all.push_str(rest)?;
@@ -31,21 +29,9 @@ pub fn spelled(alloc: Global, text: &str) -> Result<String, AllocError> {
     Ok(all)
 }
 
-/// The text with a newline, or nothing where it is empty.
-fn line_of(alloc: Global, text: &str) -> Result<String, AllocError> {
-    let mut line = spelled(alloc, text)?;
-    if !text.is_empty() {
-        line.push('\n')?;
-    }
-    Ok(line)
-}
-
-/// Returns the expected outcome of a call: its exit code, and the lines that it prints and notes. Both lines
-/// are given without their newlines.
-pub fn wanted(alloc: Global, code: u8, text: &str, note: &str) -> Result<String, AllocError> {
-    let text = line_of(alloc, text)?;
-    let note = line_of(alloc, note)?;
-    format!(in alloc; "{code} {text}|{note}")
+/// Returns the first field of a row, and the others.
+pub fn first_field(row: &str) -> (&str, &str) {
+    row.split_once(" | ").unwrap_or((row, ""))
 }
 
 /// Returns true if a call comes to this: the exit code, and after it what is printed and noted.
@@ -57,11 +43,12 @@ pub fn comes_to(alloc: Global, line: &str, source: &str, failing: &Failing, want
 }
 
 /// Returns true if a call comes to what its row says.
-fn is_right(alloc: Global, row: &Row) -> Result<bool, AllocError> {
-    let (words, source, code, text, note) = row;
+fn is_right(alloc: Global, row: &str) -> Result<bool, AllocError> {
+    let (words, rest) = first_field(row);
+    let (source, outcome) = first_field(rest);
     let line = spelled(alloc, words)?;
     let source = spelled(alloc, source)?;
-    let wanted = wanted(alloc, *code, text, note)?;
+    let wanted = spelled(alloc, outcome)?;
     Ok(comes_to(
         alloc,
         line.as_str(),
@@ -71,9 +58,13 @@ fn is_right(alloc: Global, row: &Row) -> Result<bool, AllocError> {
     ))
 }
 
-/// Notes the first row that comes out otherwise.
-pub fn note_rows(alloc: Global, wrong: &mut Wrong, name: &'static str, rows: &[Row]) {
-    for (number, row) in rows.iter().enumerate() {
-        wrong.note(name, number, is_right(alloc, row).unwrap_or(false));
+/// Notes the first row that comes out otherwise. A row is a line: the words of a call, what its source holds,
+/// and the outcome, which is the exit code, what is printed, and after a bar what is noted. A line that begins
+/// with `#` is a comment.
+pub fn note_rows(alloc: Global, wrong: &mut Wrong, rows: &'static str) {
+    for (number, row) in rows.split('\n').enumerate() {
+        if !row.starts_with("#") {
+            wrong.note(row, number, is_right(alloc, row).unwrap_or(false));
+        }
     }
 }

@@ -3,7 +3,7 @@ ghost use Rattle.std.specs.Prelude.{◌<◌};
 
 use crate::calls::comes_to;
 use crate::told::{SOUND, told};
-use crate::wrong::Wrong;
+use crate::wrong::{NONE, Wrong};
 use builtin_rules::builtin::builtin;
 use builtin_rules::name::Name;
 use std::alloc::{AllocError, Global};
@@ -145,7 +145,7 @@ static NAMES: [(Name, &str); 5] = [
 
 /// The first rule whose tiles come out otherwise.
 fn first_wrong(alloc: Global) -> Wrong {
-    let mut wrong = Wrong::default();
+    let mut wrong = NONE;
     for (name, text) in &NAMES {
         let is_right = match builtin(alloc, *name) {
             Ok(checked) => are_right(alloc, checked.uses(), text),

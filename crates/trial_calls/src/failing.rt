@@ -2,7 +2,7 @@
 use crate::calls::{CHAIRS_LIST, comes_to};
 use crate::files::CHAIR;
 use crate::told::{Failing, SOUND};
-use crate::wrong::Wrong;
+use crate::wrong::{NONE, Wrong};
 use std::alloc::{AllocError, Global};
 
 const SCRIPT: &str = "let a 0:0/0,1/0\nacross a 4 b\ncommon a b\nplace b\n";
@@ -156,7 +156,7 @@ fn note_calls(alloc: Global, wrong: &mut Wrong) {
 
 /// The first call that comes out otherwise, where its writes, reads or notes fail in turn.
 fn first_wrong(alloc: Global) -> Wrong {
-    let mut wrong = Wrong::default();
+    let mut wrong = NONE;
     note_calls(alloc, &mut wrong);
     for refused in &REFUSED {
         for notes in 0..refused.3.len().saturating_add(2) {

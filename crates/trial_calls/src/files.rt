@@ -1,7 +1,7 @@
 //! Rule files read from the source: what is printed, and each refusal, on rows typed from outside.
 ghost use Rattle.std.specs.Prelude.{◌≤◌};
 
-use crate::calls::{Row, wanted};
+use crate::calls::{first_field, spelled};
 use crate::told::{SOUND, told_over};
 use crate::wrong::Wrong;
 use std::alloc::{AllocError, Global};
@@ -55,222 +55,42 @@ edges = [2, 7, 0]
 children = [[3,6, 0,1,0,0], [2,0, -1,1,0,0], [0,5, 0,1,0,0]]
 ";
 
-/// Words, what of a file is replaced by what, the exit code that is wanted, the line printed, and the line
-/// noted.
-type Changed = (
-    &'static str,
-    &'static str,
-    &'static str,
-    u8,
-    &'static str,
-    &'static str,
-);
-
-/// Changes of the chair's file.
-static CHAIR_ROWS: [Changed; 24] = [
-    (
-        "check rule=-",
-        "",
-        "",
-        0,
-        "accepted order 4 kinds 1 types 1",
-        "",
-    ),
-    (
-        "check rule=chair",
-        "",
-        "",
-        0,
-        "accepted order 4 kinds 1 types 1",
-        "",
-    ),
-    ("place rule=- addr=0:1/0,2/0", "", "", 0, "0 1 7,1,0,0", ""),
-    (
-        "neighbour edge=4 addr=0:0/0,1/0 rule=-",
-        "",
-        "",
-        0,
-        "0:1/0,0/0 7",
-        "",
-    ),
-    (
-        "neighbour rule=- addr=0:0/0 edge=4",
-        "",
-        "",
-        8,
-        "",
-        "8 Outside 4 0",
-    ),
-    (
-        "neighbour rule=- addr=0:0/0 edge=8",
-        "",
-        "",
-        12,
-        "",
-        "12 NoEdge 8 8",
-    ),
-    (
-        "place rule=- addr=0:4/0",
-        "",
-        "",
-        4,
-        "",
-        "4 BadAddress WrongChild 0",
-    ),
-    ("place rule=-", "", "", 2, "", "2 BadWords 2"),
-    ("check rule=- addr=0:", "", "", 2, "", "2 BadWords 2"),
-    ("check rule=-- ", "", "", 2, "", "2 BadWords 1"),
-    ("check", "", "", 2, "", "2 BadWords 1"),
-    (
-        "place rule=- addr=",
-        " [0,0, 1,1,0,0],",
-        "",
-        3,
-        "",
-        "3 RuleRefused ChildEdgeLoose 0 0 0",
-    ),
-    (
-        "check rule=-",
-        " [0,0, 1,1,0,0],",
-        "",
-        3,
-        "",
-        "3 RuleRefused ChildEdgeLoose 0 0 0",
-    ),
-    (
-        "check rule=-",
-        "1,1,0,0], [0,1",
-        "0,0,0,0], [0,1",
-        3,
-        "",
-        "3 RuleRefused ChildEdgeLoose 0 0 0",
-    ),
-    (
-        "check rule=-",
-        "mate = 0",
-        "mate = 1",
-        3,
-        "",
-        "3 RuleRefused TooMany mate 0",
-    ),
-    (
-        "check rule=-",
-        "glue = []",
-        "glue = [5]",
-        3,
-        "",
-        "3 RuleRefused TooMany glue",
-    ),
-    (
-        "check rule=-",
-        "glue = []",
-        "glue = [0]",
-        3,
-        "",
-        "3 RuleRefused GlueWrong 0",
-    ),
-    (
-        "check rule=-",
-        "[2, 0, 0, 0]",
-        "[1, 0, 0, 0]",
-        3,
-        "",
-        "3 RuleRefused WrongFactor",
-    ),
-    (
-        "check rule=-",
-        "[2, 0, 0, 0]",
-        "[2, 1, 0, 0]",
-        3,
-        "",
-        "3 RuleRefused WrongFactor",
-    ),
-    (
-        "check rule=-",
-        "[1,2,0,0]",
-        "[0,1,0,0]",
-        3,
-        "",
-        "3 RuleRefused NotStar 0",
-    ),
-    (
-        "check rule=-",
-        "order = 4",
-        "order = \"4\"",
-        3,
-        "",
-        "3 RuleRefused WrongType order",
-    ),
-    (
-        "check rule=-",
-        "order = 4",
-        "order = 6",
-        3,
-        "",
-        "3 RuleRefused OutOfRange order",
-    ),
-    (
-        "check rule=-",
-        "[[1,1,0,0]",
-        "[[65,1,0,0]",
-        3,
-        "",
-        "3 RuleRefused OutOfRange vertices 0",
-    ),
-    (
-        "check rule=-",
-        "glue = []",
-        "glue = []\nname = \"x\"",
-        3,
-        "",
-        "3 RuleRefused UnknownKey top",
-    ),
-];
+/// Changes of the chair's file. A row is a line: the words of a call, what of the file is replaced by what, and
+/// the outcome.
+const CHAIR_ROWS: &str = "\
+check rule=- |  |  | 0 accepted order 4 kinds 1 types 1¶|
+check rule=chair |  |  | 0 accepted order 4 kinds 1 types 1¶|
+place rule=- addr=0:1/0,2/0 |  |  | 0 0 1 7,1,0,0¶|
+neighbour edge=4 addr=0:0/0,1/0 rule=- |  |  | 0 0:1/0,0/0 7¶|
+neighbour rule=- addr=0:0/0 edge=4 |  |  | 8 |8 Outside 4 0¶
+neighbour rule=- addr=0:0/0 edge=8 |  |  | 12 |12 NoEdge 8 8¶
+place rule=- addr=0:4/0 |  |  | 4 |4 BadAddress WrongChild 0¶
+place rule=- |  |  | 2 |2 BadWords 2¶
+check rule=- addr=0: |  |  | 2 |2 BadWords 2¶
+check rule=--  |  |  | 2 |2 BadWords 1¶
+check |  |  | 2 |2 BadWords 1¶
+place rule=- addr= |  [0,0, 1,1,0,0], |  | 3 |3 RuleRefused ChildEdgeLoose 0 0 0¶
+check rule=- |  [0,0, 1,1,0,0], |  | 3 |3 RuleRefused ChildEdgeLoose 0 0 0¶
+check rule=- | 1,1,0,0], [0,1 | 0,0,0,0], [0,1 | 3 |3 RuleRefused ChildEdgeLoose 0 0 0¶
+check rule=- | mate = 0 | mate = 1 | 3 |3 RuleRefused TooMany mate 0¶
+check rule=- | glue = [] | glue = [5] | 3 |3 RuleRefused TooMany glue¶
+check rule=- | glue = [] | glue = [0] | 3 |3 RuleRefused GlueWrong 0¶
+check rule=- | [2, 0, 0, 0] | [1, 0, 0, 0] | 3 |3 RuleRefused WrongFactor¶
+check rule=- | [2, 0, 0, 0] | [2, 1, 0, 0] | 3 |3 RuleRefused WrongFactor¶
+check rule=- | [1,2,0,0] | [0,1,0,0] | 3 |3 RuleRefused NotStar 0¶
+check rule=- | order = 4 | order = \"4\" | 3 |3 RuleRefused WrongType order¶
+check rule=- | order = 4 | order = 6 | 3 |3 RuleRefused OutOfRange order¶
+check rule=- | [[1,1,0,0] | [[65,1,0,0] | 3 |3 RuleRefused OutOfRange vertices 0¶
+check rule=- | glue = [] | glue = []¶name = \"x\" | 3 |3 RuleRefused UnknownKey top¶";
 
 // The same of Penrose's rhombs.
-static P3_ROWS: [Changed; 6] = [
-    (
-        "check rule=-",
-        "",
-        "",
-        0,
-        "accepted order 10 kinds 4 types 8",
-        "",
-    ),
-    ("place rule=- addr=0:0/0,0/0", "", "", 0, "0 4 2,0,1,-1", ""),
-    (
-        "neighbour rule=- addr=2:1/0,0/0 edge=2",
-        "",
-        "",
-        0,
-        "3:1/2,1/0 0",
-        "",
-    ),
-    (
-        "check rule=-",
-        "parts = [7, 1]",
-        "parts = [1, 7]",
-        3,
-        "",
-        "3 RuleRefused BadSubdivision 6",
-    ),
-    (
-        "check rule=-",
-        "[7, 1]}, {mate = 6, parts = [0, 6]",
-        "[1, 7]}, {mate = 6, parts = [6, 0]",
-        3,
-        "",
-        "3 RuleRefused BoundaryWrong 2 1 0",
-    ),
-    (
-        "check rule=-",
-        "[0, 4, 3]",
-        "[0, 0, 3]",
-        3,
-        "",
-        "3 RuleRefused BadLength 0 1",
-    ),
-];
+const P3_ROWS: &str = "\
+check rule=- |  |  | 0 accepted order 10 kinds 4 types 8¶|
+place rule=- addr=0:0/0,0/0 |  |  | 0 0 4 2,0,1,-1¶|
+neighbour rule=- addr=2:1/0,0/0 edge=2 |  |  | 0 3:1/2,1/0 0¶|
+check rule=- | parts = [7, 1] | parts = [1, 7] | 3 |3 RuleRefused BadSubdivision 6¶
+check rule=- | [7, 1]}, {mate = 6, parts = [0, 6] | [1, 7]}, {mate = 6, parts = [6, 0] | 3 |3 RuleRefused BoundaryWrong 2 1 0¶
+check rule=- | [0, 4, 3] | [0, 0, 3] | 3 |3 RuleRefused BadLength 0 1¶";
 
 // The half square cut by a factor that turns.
 const HALF_SQUARE: &str = "format = 2
@@ -293,82 +113,27 @@ children = [[0,3, 0,1,0,0], [0,2, 0,1,0,0]]
 ";
 
 // The same of the half square.
-static HALF_SQUARE_ROWS: [Changed; 8] = [
-    (
-        "check rule=-",
-        "",
-        "",
-        0,
-        "accepted order 4 kinds 1 types 2",
-        "",
-    ),
-    ("place rule=- addr=0:1/0,0/0", "", "", 0, "0 1 0,1,0,0", ""),
-    (
-        "check rule=-",
-        "format = 2",
-        "format = 1",
-        3,
-        "",
-        "3 RuleRefused WrongFactor",
-    ),
-    (
-        "check rule=-",
-        "format = 2",
-        "format = 3",
-        3,
-        "",
-        "3 RuleRefused OutOfRange format",
-    ),
-    (
-        "check rule=-",
-        "order = 4",
-        "order = 5",
-        3,
-        "",
-        "3 RuleRefused OutOfRange order",
-    ),
-    (
-        "check rule=-",
-        "[1, 1, 0, 0]",
-        "[0, 1, 0, 0]",
-        3,
-        "",
-        "3 RuleRefused WrongFactor",
-    ),
-    (
-        "check rule=-",
-        "order = 4\nlambda = [1, 1, 0, 0]",
-        "order = 6\nlambda = [1, 1, 1, 0]",
-        3,
-        "",
-        "3 RuleRefused OutOfRange lambda",
-    ),
-    (
-        "check rule=-",
-        "order = 4",
-        "order = 6",
-        3,
-        "",
-        "3 RuleRefused ChildEdgeLoose 0 0 1",
-    ),
-];
+const HALF_SQUARE_ROWS: &str = "\
+check rule=- |  |  | 0 accepted order 4 kinds 1 types 2¶|
+place rule=- addr=0:1/0,0/0 |  |  | 0 0 1 0,1,0,0¶|
+check rule=- | format = 2 | format = 1 | 3 |3 RuleRefused WrongFactor¶
+check rule=- | format = 2 | format = 3 | 3 |3 RuleRefused OutOfRange format¶
+check rule=- | order = 4 | order = 5 | 3 |3 RuleRefused OutOfRange order¶
+check rule=- | [1, 1, 0, 0] | [0, 1, 0, 0] | 3 |3 RuleRefused WrongFactor¶
+check rule=- | order = 4¶lambda = [1, 1, 0, 0] | order = 6¶lambda = [1, 1, 1, 0] | 3 |3 RuleRefused OutOfRange lambda¶
+check rule=- | order = 4 | order = 6 | 3 |3 RuleRefused ChildEdgeLoose 0 0 1¶";
 
 /// Files without a format: none, and the longest that is read; and one that is too long.
-pub static LONG_FILES: [Row; 3] = [
-    ("check rule=-", "", 3, "", "3 RuleRefused Missing format"),
-    (
-        "check rule=-",
-        "«#×1048576»",
-        3,
-        "",
-        "3 RuleRefused Missing format",
-    ),
-    ("check rule=-", "«#×1048577»", 3, "", "3 RuleTooLong"),
-];
+pub const LONG_FILES: &str = "\
+check rule=- |  | 3 |3 RuleRefused Missing format¶
+check rule=- | «#×1048576» | 3 |3 RuleRefused Missing format¶
+check rule=- | «#×1048577» | 3 |3 RuleTooLong¶";
 
 /// Returns the text with the first occurrence of the old text replaced by the new one.
 fn changed(alloc: Global, text: &str, old: &str, new: &str) -> Result<String, AllocError> {
-    match text.split_once(old) {
+    let old = spelled(alloc, old)?;
+    let new = spelled(alloc, new)?;
+    match text.split_once(old.as_str()) {
         Some((before, behind)) => format!(in alloc; "{before}{new}{behind}"),
         None => text.to_string(alloc),
     }
@@ -382,21 +147,23 @@ fn given(source: &mut MemSource) -> usize {
 
 /// Returns true if a changed file comes out as its row says. A file is read to its end if the arguments are
 /// right and name no rule.
-fn is_right(alloc: Global, file: &str, row: &Changed) -> Result<bool, NoMemory> {
-    let (words, old, new, code, text, note) = row;
+fn is_right(alloc: Global, file: &str, row: &str) -> Result<bool, NoMemory> {
+    let (words, rest) = first_field(row);
+    let (old, rest) = first_field(rest);
+    let (new, outcome) = first_field(rest);
+    let wanted = spelled(alloc, outcome)?;
     let bytes = changed(alloc, file, old, new)?.into_bytes();
     let mut source = MemSource::new(bytes, 16, Vec::new(alloc));
     let ended = told_over(alloc, words, &mut source, &SOUND)?;
-    let wanted = wanted(alloc, *code, text, note)?;
-    let is_read = *code != 2 && *words != "check rule=chair";
+    let is_read = !outcome.starts_with("2 ") && words != "check rule=chair";
     let left = if is_read { 0 } else { 16 };
     Ok(ended.as_str() == wanted.as_str() && given(&mut source) == left)
 }
 
 /// Notes the first changed file that comes out otherwise.
-fn note_changed(alloc: Global, wrong: &mut Wrong, file: &'static str, rows: &[Changed]) {
-    for (number, row) in rows.iter().enumerate() {
-        wrong.note(file, number, is_right(alloc, file, row).unwrap_or(false));
+fn note_changed(alloc: Global, wrong: &mut Wrong, file: &str, rows: &'static str) {
+    for (number, row) in rows.split('\n').enumerate() {
+        wrong.note(row, number, is_right(alloc, file, row).unwrap_or(false));
     }
 }
 
@@ -408,9 +175,9 @@ fn told_of_no_text(alloc: Global) -> Result<String, NoMemory> {
 
 /// Notes the first file that comes out otherwise.
 pub fn note_files(alloc: Global, wrong: &mut Wrong) {
-    note_changed(alloc, wrong, CHAIR, &CHAIR_ROWS);
-    note_changed(alloc, wrong, P3, &P3_ROWS);
-    note_changed(alloc, wrong, HALF_SQUARE, &HALF_SQUARE_ROWS);
+    note_changed(alloc, wrong, CHAIR, CHAIR_ROWS);
+    note_changed(alloc, wrong, P3, P3_ROWS);
+    note_changed(alloc, wrong, HALF_SQUARE, HALF_SQUARE_ROWS);
     let is_refused = match told_of_no_text(alloc) {
         Ok(ended) => ended.as_str() == "3 |3 RuleRefused NotToml\n",
         Err(_) => false,

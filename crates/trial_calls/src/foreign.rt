@@ -1,7 +1,5 @@
 //! Listings for `verify`, and what is said of them.
-use crate::calls::Row;
 use crate::told::{SOUND, told_over};
-use crate::wrong::Wrong;
 use std::alloc::{AllocError, Global};
 use tile_io::mem_source::MemSource;
 use tile_shape::no_memory::NoMemory;
@@ -10,279 +8,55 @@ use tile_shape::no_memory::NoMemory;
 const WINDOW: &str = "verify rule=chair seed=42 addr=0: at=1,1,0,0 half=2,1";
 
 /// Right listings of it, and listings with a fault.
-pub static LISTINGS: [Row; 43] = [
-    (
-        WINDOW,
-        "0 0 0,0,0,0 0:3/0\n0 1 3,1,0,0 0:1/0\n",
-        0,
-        "right 2",
-        "",
-    ),
-    (
-        WINDOW,
-        "0 0 0,0,0,0 0:3/0\n0 1 3,1,0,0 0:1/0",
-        0,
-        "right 2",
-        "",
-    ),
-    (
-        WINDOW,
-        "0 1 3,1,0,0 0:1/0\n0 0 0,0,0,0 0:3/0\n",
-        0,
-        "right 2",
-        "",
-    ),
-    (
-        WINDOW,
-        "0 0 0,0,0,0 0:\n0 1 3,1,0,0 0:1/0\n",
-        0,
-        "right 2",
-        "",
-    ),
-    (
-        WINDOW,
-        "0 0 0,0,0,0 0:3/0\n0 1 3,1,0,0 0:1/0 + x\n",
-        17,
-        "",
-        "17 BadListing BadLine 2 4",
-    ),
-    (WINDOW, "\n", 17, "", "17 BadListing BadLine 1 0"),
-    (
-        WINDOW,
-        "0 0 0,0,0,0 0:\n\n",
-        17,
-        "",
-        "17 BadListing BadLine 2 0",
-    ),
-    (
-        WINDOW,
-        "0 0 0,0,0,0 0:\n\n0 0 0,0,0,0 0:",
-        17,
-        "",
-        "17 BadListing BadLine 2 0",
-    ),
-    (
-        WINDOW,
-        "0 0 0,0,0 0: x\n",
-        17,
-        "",
-        "17 BadListing BadLine 1 2",
-    ),
-    (WINDOW, "0 x\n", 17, "", "17 BadListing BadLine 1 1"),
-    (WINDOW, "0\n", 17, "", "17 BadListing BadLine 1 1"),
-    (WINDOW, "0 \n", 17, "", "17 BadListing BadLine 1 1"),
-    (WINDOW, "0 0\n", 17, "", "17 BadListing BadLine 1 2"),
-    (WINDOW, "0 0 0,0,0,0\n", 17, "", "17 BadListing BadLine 1 3"),
-    (
-        WINDOW,
-        "0 0 0,0,0,0 \n",
-        17,
-        "",
-        "17 BadListing BadLine 1 3",
-    ),
-    (
-        WINDOW,
-        "0 0 0,0,0,0  0:\n",
-        17,
-        "",
-        "17 BadListing BadLine 1 3",
-    ),
-    (
-        WINDOW,
-        "0  0 0,0,0,0 0:\n",
-        17,
-        "",
-        "17 BadListing BadLine 1 1",
-    ),
-    (
-        WINDOW,
-        " 0 0 0,0,0,0 0:\n",
-        17,
-        "",
-        "17 BadListing BadLine 1 0",
-    ),
-    (
-        WINDOW,
-        "0 0 0,0,0,0 0: \n",
-        17,
-        "",
-        "17 BadListing BadLine 1 4",
-    ),
-    (
-        WINDOW,
-        "0 0 0,0,0,0 x y\n",
-        17,
-        "",
-        "17 BadListing BadLine 1 4",
-    ),
-    (
-        WINDOW,
-        "256 0 0,0,0,0 0:\n",
-        17,
-        "",
-        "17 BadListing BadLine 1 0",
-    ),
-    (
-        WINDOW,
-        "0 00 0,0,0,0 0:\n",
-        17,
-        "",
-        "17 BadListing BadLine 1 1",
-    ),
-    (
-        WINDOW,
-        "0 0 -0,0,0,0 0:\n",
-        17,
-        "",
-        "17 BadListing BadLine 1 2",
-    ),
-    (
-        WINDOW,
-        "0 0 +1,0,0,0 0:\n",
-        17,
-        "",
-        "17 BadListing BadLine 1 2",
-    ),
-    (
-        WINDOW,
-        "0 0 16777217,0,0,0 0:\n",
-        17,
-        "",
-        "17 BadListing BadLine 1 2",
-    ),
-    (
-        WINDOW,
-        "0 0 0,0,0,-16777217 0:\n",
-        17,
-        "",
-        "17 BadListing BadLine 1 2",
-    ),
-    (
-        WINDOW,
-        "0 0 0,0,0,0,0 0:\n",
-        17,
-        "",
-        "17 BadListing BadLine 1 2",
-    ),
-    (
-        WINDOW,
-        "0 0 0,0,0, 0:\n",
-        17,
-        "",
-        "17 BadListing BadLine 1 2",
-    ),
-    (WINDOW, "\r\n", 17, "", "17 BadListing BadLine 1 0"),
-    (
-        WINDOW,
-        "0 0 0,0,0,0 0:\r\n",
-        17,
-        "",
-        "17 BadListing Address 1 BadText 2",
-    ),
-    (
-        WINDOW,
-        "0 0 0,0,0,0 0:4/0\n",
-        17,
-        "",
-        "17 BadListing Address 1 WrongChild 0",
-    ),
-    (
-        WINDOW,
-        "0 0 0,0,0,0 0:3/0,12/0\n",
-        17,
-        "",
-        "17 BadListing Address 1 WrongChild 1",
-    ),
-    (
-        WINDOW,
-        "1 0 0,0,0,0 0:\n",
-        17,
-        "",
-        "17 BadListing BadKind 1",
-    ),
-    (
-        WINDOW,
-        "0 0 0,0,0,0 0:\n1 0 0,0,0,0 0:\n\n",
-        17,
-        "",
-        "17 BadListing BadKind 2",
-    ),
-    (
-        WINDOW,
-        "0 0 0,0,0,0 0:3/0\n",
-        17,
-        "",
-        "17 BadListing Missing 0:1/0",
-    ),
-    (WINDOW, "", 17, "", "17 BadListing Missing 0:1/0"),
-    (
-        WINDOW,
-        "0 0 0,0,0,0 0:3/0\n0 1 3,1,0,0 0:1/0\n0 1 4,0,0,0 0:0/0\n",
-        17,
-        "",
-        "17 BadListing Stray 3",
-    ),
-    (
-        WINDOW,
-        "0 0 0,0,0,0 0:3/0\n0 1 3,1,0,0 0:1/0\n0 0 0,0,0,0 0:3/0\n",
-        17,
-        "",
-        "17 BadListing Double 3",
-    ),
-    (
-        WINDOW,
-        "0 0 0,0,0,0 0:3/0\n0 1 3,1,0,0 0:1/0\n0 0 0,0,0,0 0:\n",
-        17,
-        "",
-        "17 BadListing Double 3",
-    ),
-    (
-        WINDOW,
-        "0 0 0,0,0,0 0:3/0\n0 1 3,2,0,0 0:1/0\n",
-        17,
-        "",
-        "17 BadListing WrongPlace 2 1 3,1,0,0",
-    ),
-    (
-        WINDOW,
-        "0 0 0,0,0,0 0:3/0\n0 1 3,1,7,0 0:1/0\n",
-        17,
-        "",
-        "17 BadListing WrongPlace 2 1 3,1,0,0",
-    ),
-    (
-        WINDOW,
-        "0 0 0,0,0,0 0:3/0\n0 5 3,1,0,0 0:1/0\n",
-        17,
-        "",
-        "17 BadListing WrongPlace 2 1 3,1,0,0",
-    ),
-    (
-        "verify rule=p3 addr=2: at=0,0,0,0 half=1,1",
-        "0 0 0,0,0,0 0:\n",
-        17,
-        "",
-        "17 BadListing NotOfFrame 1",
-    ),
-];
+pub const LISTINGS: &str = "\
+verify rule=chair seed=42 addr=0: at=1,1,0,0 half=2,1 | 0 0 0,0,0,0 0:3/0¶0 1 3,1,0,0 0:1/0¶ | 0 right 2¶|
+verify rule=chair seed=42 addr=0: at=1,1,0,0 half=2,1 | 0 0 0,0,0,0 0:3/0¶0 1 3,1,0,0 0:1/0 | 0 right 2¶|
+verify rule=chair seed=42 addr=0: at=1,1,0,0 half=2,1 | 0 1 3,1,0,0 0:1/0¶0 0 0,0,0,0 0:3/0¶ | 0 right 2¶|
+verify rule=chair seed=42 addr=0: at=1,1,0,0 half=2,1 | 0 0 0,0,0,0 0:¶0 1 3,1,0,0 0:1/0¶ | 0 right 2¶|
+verify rule=chair seed=42 addr=0: at=1,1,0,0 half=2,1 | 0 0 0,0,0,0 0:3/0¶0 1 3,1,0,0 0:1/0 + x¶ | 17 |17 BadListing BadLine 2 4¶
+verify rule=chair seed=42 addr=0: at=1,1,0,0 half=2,1 | ¶ | 17 |17 BadListing BadLine 1 0¶
+verify rule=chair seed=42 addr=0: at=1,1,0,0 half=2,1 | 0 0 0,0,0,0 0:¶¶ | 17 |17 BadListing BadLine 2 0¶
+verify rule=chair seed=42 addr=0: at=1,1,0,0 half=2,1 | 0 0 0,0,0,0 0:¶¶0 0 0,0,0,0 0: | 17 |17 BadListing BadLine 2 0¶
+verify rule=chair seed=42 addr=0: at=1,1,0,0 half=2,1 | 0 0 0,0,0 0: x¶ | 17 |17 BadListing BadLine 1 2¶
+verify rule=chair seed=42 addr=0: at=1,1,0,0 half=2,1 | 0 x¶ | 17 |17 BadListing BadLine 1 1¶
+verify rule=chair seed=42 addr=0: at=1,1,0,0 half=2,1 | 0¶ | 17 |17 BadListing BadLine 1 1¶
+verify rule=chair seed=42 addr=0: at=1,1,0,0 half=2,1 | 0 ¶ | 17 |17 BadListing BadLine 1 1¶
+verify rule=chair seed=42 addr=0: at=1,1,0,0 half=2,1 | 0 0¶ | 17 |17 BadListing BadLine 1 2¶
+verify rule=chair seed=42 addr=0: at=1,1,0,0 half=2,1 | 0 0 0,0,0,0¶ | 17 |17 BadListing BadLine 1 3¶
+verify rule=chair seed=42 addr=0: at=1,1,0,0 half=2,1 | 0 0 0,0,0,0 ¶ | 17 |17 BadListing BadLine 1 3¶
+verify rule=chair seed=42 addr=0: at=1,1,0,0 half=2,1 | 0 0 0,0,0,0  0:¶ | 17 |17 BadListing BadLine 1 3¶
+verify rule=chair seed=42 addr=0: at=1,1,0,0 half=2,1 | 0  0 0,0,0,0 0:¶ | 17 |17 BadListing BadLine 1 1¶
+verify rule=chair seed=42 addr=0: at=1,1,0,0 half=2,1 |  0 0 0,0,0,0 0:¶ | 17 |17 BadListing BadLine 1 0¶
+verify rule=chair seed=42 addr=0: at=1,1,0,0 half=2,1 | 0 0 0,0,0,0 0: ¶ | 17 |17 BadListing BadLine 1 4¶
+verify rule=chair seed=42 addr=0: at=1,1,0,0 half=2,1 | 0 0 0,0,0,0 x y¶ | 17 |17 BadListing BadLine 1 4¶
+verify rule=chair seed=42 addr=0: at=1,1,0,0 half=2,1 | 256 0 0,0,0,0 0:¶ | 17 |17 BadListing BadLine 1 0¶
+verify rule=chair seed=42 addr=0: at=1,1,0,0 half=2,1 | 0 00 0,0,0,0 0:¶ | 17 |17 BadListing BadLine 1 1¶
+verify rule=chair seed=42 addr=0: at=1,1,0,0 half=2,1 | 0 0 -0,0,0,0 0:¶ | 17 |17 BadListing BadLine 1 2¶
+verify rule=chair seed=42 addr=0: at=1,1,0,0 half=2,1 | 0 0 +1,0,0,0 0:¶ | 17 |17 BadListing BadLine 1 2¶
+verify rule=chair seed=42 addr=0: at=1,1,0,0 half=2,1 | 0 0 16777217,0,0,0 0:¶ | 17 |17 BadListing BadLine 1 2¶
+verify rule=chair seed=42 addr=0: at=1,1,0,0 half=2,1 | 0 0 0,0,0,-16777217 0:¶ | 17 |17 BadListing BadLine 1 2¶
+verify rule=chair seed=42 addr=0: at=1,1,0,0 half=2,1 | 0 0 0,0,0,0,0 0:¶ | 17 |17 BadListing BadLine 1 2¶
+verify rule=chair seed=42 addr=0: at=1,1,0,0 half=2,1 | 0 0 0,0,0, 0:¶ | 17 |17 BadListing BadLine 1 2¶
+verify rule=chair seed=42 addr=0: at=1,1,0,0 half=2,1 | ␍¶ | 17 |17 BadListing BadLine 1 0¶
+verify rule=chair seed=42 addr=0: at=1,1,0,0 half=2,1 | 0 0 0,0,0,0 0:␍¶ | 17 |17 BadListing Address 1 BadText 2¶
+verify rule=chair seed=42 addr=0: at=1,1,0,0 half=2,1 | 0 0 0,0,0,0 0:4/0¶ | 17 |17 BadListing Address 1 WrongChild 0¶
+verify rule=chair seed=42 addr=0: at=1,1,0,0 half=2,1 | 0 0 0,0,0,0 0:3/0,12/0¶ | 17 |17 BadListing Address 1 WrongChild 1¶
+verify rule=chair seed=42 addr=0: at=1,1,0,0 half=2,1 | 1 0 0,0,0,0 0:¶ | 17 |17 BadListing BadKind 1¶
+verify rule=chair seed=42 addr=0: at=1,1,0,0 half=2,1 | 0 0 0,0,0,0 0:¶1 0 0,0,0,0 0:¶¶ | 17 |17 BadListing BadKind 2¶
+verify rule=chair seed=42 addr=0: at=1,1,0,0 half=2,1 | 0 0 0,0,0,0 0:3/0¶ | 17 |17 BadListing Missing 0:1/0¶
+verify rule=chair seed=42 addr=0: at=1,1,0,0 half=2,1 |  | 17 |17 BadListing Missing 0:1/0¶
+verify rule=chair seed=42 addr=0: at=1,1,0,0 half=2,1 | 0 0 0,0,0,0 0:3/0¶0 1 3,1,0,0 0:1/0¶0 1 4,0,0,0 0:0/0¶ | 17 |17 BadListing Stray 3¶
+verify rule=chair seed=42 addr=0: at=1,1,0,0 half=2,1 | 0 0 0,0,0,0 0:3/0¶0 1 3,1,0,0 0:1/0¶0 0 0,0,0,0 0:3/0¶ | 17 |17 BadListing Double 3¶
+verify rule=chair seed=42 addr=0: at=1,1,0,0 half=2,1 | 0 0 0,0,0,0 0:3/0¶0 1 3,1,0,0 0:1/0¶0 0 0,0,0,0 0:¶ | 17 |17 BadListing Double 3¶
+verify rule=chair seed=42 addr=0: at=1,1,0,0 half=2,1 | 0 0 0,0,0,0 0:3/0¶0 1 3,2,0,0 0:1/0¶ | 17 |17 BadListing WrongPlace 2 1 3,1,0,0¶
+verify rule=chair seed=42 addr=0: at=1,1,0,0 half=2,1 | 0 0 0,0,0,0 0:3/0¶0 1 3,1,7,0 0:1/0¶ | 17 |17 BadListing WrongPlace 2 1 3,1,0,0¶
+verify rule=chair seed=42 addr=0: at=1,1,0,0 half=2,1 | 0 0 0,0,0,0 0:3/0¶0 5 3,1,0,0 0:1/0¶ | 17 |17 BadListing WrongPlace 2 1 3,1,0,0¶
+verify rule=p3 addr=2: at=0,0,0,0 half=1,1 | 0 0 0,0,0,0 0:¶ | 17 |17 BadListing NotOfFrame 1¶";
 
 /// Listings of the greatest number of lines, all the same, and of one line more.
-pub static LONG_LISTINGS: [Row; 2] = [
-    (
-        WINDOW,
-        "«0 0 0,0,0,0 0:\n×200000»",
-        17,
-        "",
-        "17 BadListing Double 2",
-    ),
-    (
-        WINDOW,
-        "«0 0 0,0,0,0 0:\n×200000»x",
-        17,
-        "",
-        "17 BadListing TooLong",
-    ),
-];
+pub const LONG_LISTINGS: &str = "\
+verify rule=chair seed=42 addr=0: at=1,1,0,0 half=2,1 | «0 0 0,0,0,0 0:¶×200000» | 17 |17 BadListing Double 2¶
+verify rule=chair seed=42 addr=0: at=1,1,0,0 half=2,1 | «0 0 0,0,0,0 0:¶×200000»x | 17 |17 BadListing TooLong¶";
 
 /// The digits of the chair.
 static DIGITS: [&str; 4] = ["0/0,", "1/0,", "2/0,", "3/0,"];
@@ -318,11 +92,10 @@ fn told_of_different_tiles(alloc: Global) -> Result<String, NoMemory> {
     told_over(alloc, WINDOW, &mut source, &SOUND)
 }
 
-/// Notes that listing, if it isn't refused for its last line.
-pub fn note_different_tiles(alloc: Global, wrong: &mut Wrong) {
-    let is_refused = match told_of_different_tiles(alloc) {
+/// Returns true if that listing is refused for its last line.
+pub fn are_different_tiles_refused(alloc: Global) -> bool {
+    match told_of_different_tiles(alloc) {
         Ok(ended) => ended.as_str() == "17 |17 BadListing Double 200000\n",
         Err(_) => false,
-    };
-    wrong.note("different tiles", 0, is_refused);
+    }
 }

@@ -1,567 +1,96 @@
 //! Scripts for `calc`, and what comes of them.
-use crate::calls::Row;
 
 /// Scripts that have a text, and scripts that have a fault.
-pub static SCRIPTS: [Row; 84] = [
-    (
-        "calc rule=chair",
-        "let a 0:0/0,1/0\nacross a 4 b\ncommon a b\nplace b\n",
-        0,
-        "b 0:1/0,0/0 7\na b 2\nb 0 0 1,1,0,0",
-        "",
-    ),
-    ("calc rule=chair", "", 0, "", ""),
-    ("calc rule=chair", "\n", 0, "", ""),
-    ("calc rule=chair", "# show a\n\n#\n", 0, "", ""),
-    ("calc rule=chair", "let a 0:", 0, "", ""),
-    ("calc rule=chair", "let a 0:\nshow a", 0, "a 0:", ""),
-    (
-        "calc rule=chair",
-        "let z 0:1/0,2/0\nplace z\n",
-        0,
-        "z 0 1 7,1,0,0",
-        "",
-    ),
-    (
-        "calc rule=chair",
-        "let a 0:\n\nlet a 0:3/0\nshow a\n",
-        0,
-        "a 0:3/0",
-        "",
-    ),
-    (
-        "calc rule=chair",
-        "let a 0:0/0\nacross a 0 a\nshow a\n",
-        0,
-        "a 0:1/0 3\na 0:1/0",
-        "",
-    ),
-    (
-        "calc rule=chair",
-        "let a 0:0/0\nacross a 0 b\nshow a\nacross b 3 c\ncommon a c",
-        0,
-        "b 0:1/0 3\na 0:0/0\nc 0:0/0 0\na c 0",
-        "",
-    ),
-    ("calc rule=chair", "let a 0:\ncommon a a\n", 0, "a a 0", ""),
-    (
-        "calc rule=chair",
-        "let a 0:\nlet b 0:0/0\ncommon a b\n",
-        0,
-        "a b none",
-        "",
-    ),
-    (
-        "calc rule=chair",
-        "let a 0:0/0\nlet b 0:1/0\ncommon a b\n",
-        0,
-        "a b 1",
-        "",
-    ),
-    (
-        "calc rule=chair",
-        "let a 0:0/0,1/0,2/0\nlet b 0:0/0,3/0,2/0\ncommon a b\ncommon b a\n",
-        0,
-        "a b 2\nb a 2",
-        "",
-    ),
-    (
-        "calc rule=chair",
-        "let a 0:0/0,1/0,2/0\nlet b 0:3/0,1/0,2/0\ncommon a b\ncommon a a\n",
-        0,
-        "a b 1\na a 0",
-        "",
-    ),
-    (
-        "calc rule=chair",
-        "let a 0:0/0,1/0,2/0\nlet b 0:0/0,1/0,3/0\ncommon a b\n",
-        0,
-        "a b 3",
-        "",
-    ),
-    (
-        "calc rule=chair",
-        "let a 0:0/0,1/0\nacross a 4 b\npair a b\n",
-        0,
-        "b 0:1/0,0/0 7\na b 3/0 4/7",
-        "",
-    ),
-    (
-        "calc rule=chair",
-        "let a 0:0/0,1/0\nacross a 4 b\npair b a\n",
-        0,
-        "b 0:1/0,0/0 7\nb a 0/3 7/4",
-        "",
-    ),
-    (
-        "calc rule=chair",
-        "let a 0:0/0\nlet b 0:2/0\npair a a\npair a b\n",
-        0,
-        "a a same\na b 6/1",
-        "",
-    ),
-    (
-        "calc rule=chair",
-        "let a 0:0/0\nlet b 0:\npair a b\n",
-        0,
-        "a b none",
-        "",
-    ),
-    (
-        "calc rule=chair",
-        "let a 0:2/0\nlet b 0:3/0\npair a b\n",
-        0,
-        "a b apart",
-        "",
-    ),
-    (
-        "calc rule=chair",
-        "let a 0:2/0\nplace a\n#",
-        0,
-        "a 0 1 4,0,0,0",
-        "",
-    ),
-    (
-        "calc rule=chair",
-        "let a 0:3/0\nplace a\n",
-        0,
-        "a 0 3 0,4,0,0",
-        "",
-    ),
-    (
-        "calc rule=p3",
-        "let a 0:0/0\nacross a 0 b\n",
-        0,
-        "b 2:1/0 0",
-        "",
-    ),
-    (
-        "calc rule=p3",
-        "let a 2:1/0,0/0\nacross a 2 a\nplace a\n",
-        0,
-        "a 3:1/2,1/0 0\na 3 2 1,1,0,0",
-        "",
-    ),
-    (
-        "calc rule=p3",
-        "let a 0:\nlet b 1:\ncommon a b\n",
-        0,
-        "a b none",
-        "",
-    ),
-    (
-        "calc rule=p2",
-        "let a 1:1/0\nacross a 0 b\nplace a\n",
-        0,
-        "b 0:2/0 2\na 1 4 2,0,1,-1",
-        "",
-    ),
-    (
-        "calc rule=ab",
-        "let a 1:1/0,6/0\nacross a 0 c\n",
-        0,
-        "c 2:0/2,2/0 2",
-        "",
-    ),
-    (
-        "calc rule=ab",
-        "let a 0:3/0\nplace a\n",
-        0,
-        "a 0 4 2,2,1,-1",
-        "",
-    ),
-    (
-        "calc rule=chair",
-        "show c",
-        13,
-        "",
-        "13 BadScript UnknownName 1",
-    ),
-    (
-        "calc rule=chair",
-        "show",
-        13,
-        "",
-        "13 BadScript BadLine 1 1",
-    ),
-    (
-        "calc rule=chair",
-        "show a b",
-        13,
-        "",
-        "13 BadScript BadLine 1 2",
-    ),
-    (
-        "calc rule=chair",
-        "show A",
-        13,
-        "",
-        "13 BadScript BadLine 1 1",
-    ),
-    (
-        "calc rule=chair",
-        "show ab",
-        13,
-        "",
-        "13 BadScript BadLine 1 1",
-    ),
-    (
-        "calc rule=chair",
-        "show  a",
-        13,
-        "",
-        "13 BadScript BadLine 1 1",
-    ),
-    (
-        "calc rule=chair",
-        "show a ",
-        13,
-        "",
-        "13 BadScript BadLine 1 2",
-    ),
-    (
-        "calc rule=chair",
-        "show `",
-        13,
-        "",
-        "13 BadScript BadLine 1 1",
-    ),
-    (
-        "calc rule=chair",
-        "show {",
-        13,
-        "",
-        "13 BadScript BadLine 1 1",
-    ),
-    (
-        "calc rule=chair",
-        "Show a",
-        13,
-        "",
-        "13 BadScript BadLine 1 0",
-    ),
-    (
-        "calc rule=chair",
-        " show a",
-        13,
-        "",
-        "13 BadScript BadLine 1 0",
-    ),
-    ("calc rule=chair", " ", 13, "", "13 BadScript BadLine 1 0"),
-    (
-        "calc rule=chair",
-        " # show a",
-        13,
-        "",
-        "13 BadScript BadLine 1 0",
-    ),
-    (
-        "calc rule=chair",
-        "show a\r",
-        13,
-        "",
-        "13 BadScript BadLine 1 1",
-    ),
-    (
-        "calc rule=chair",
-        "\r\n",
-        13,
-        "",
-        "13 BadScript BadLine 1 0",
-    ),
-    ("calc rule=chair", "let", 13, "", "13 BadScript BadLine 1 1"),
-    (
-        "calc rule=chair",
-        "let a",
-        13,
-        "",
-        "13 BadScript BadLine 1 2",
-    ),
-    (
-        "calc rule=chair",
-        "let a ",
-        13,
-        "",
-        "13 BadScript BadLine 1 2",
-    ),
-    (
-        "calc rule=chair",
-        "let a 0: 0",
-        13,
-        "",
-        "13 BadScript BadLine 1 3",
-    ),
-    (
-        "calc rule=chair",
-        "let 0 0:",
-        13,
-        "",
-        "13 BadScript BadLine 1 1",
-    ),
-    (
-        "calc rule=chair",
-        "place",
-        13,
-        "",
-        "13 BadScript BadLine 1 1",
-    ),
-    (
-        "calc rule=chair",
-        "place a a",
-        13,
-        "",
-        "13 BadScript BadLine 1 2",
-    ),
-    (
-        "calc rule=chair",
-        "place a",
-        13,
-        "",
-        "13 BadScript UnknownName 1",
-    ),
-    (
-        "calc rule=chair",
-        "across a 256 b",
-        13,
-        "",
-        "13 BadScript BadLine 1 2",
-    ),
-    (
-        "calc rule=chair",
-        "across a 01 b",
-        13,
-        "",
-        "13 BadScript BadLine 1 2",
-    ),
-    (
-        "calc rule=chair",
-        "across a -1 b",
-        13,
-        "",
-        "13 BadScript BadLine 1 2",
-    ),
-    (
-        "calc rule=chair",
-        "across a 1",
-        13,
-        "",
-        "13 BadScript BadLine 1 3",
-    ),
-    (
-        "calc rule=chair",
-        "across a 1 b c",
-        13,
-        "",
-        "13 BadScript BadLine 1 4",
-    ),
-    (
-        "calc rule=chair",
-        "across a 1 b c d e",
-        13,
-        "",
-        "13 BadScript BadLine 1 4",
-    ),
-    (
-        "calc rule=chair",
-        "across a 255 b",
-        13,
-        "",
-        "13 BadScript UnknownName 1",
-    ),
-    (
-        "calc rule=chair",
-        "common a",
-        13,
-        "",
-        "13 BadScript BadLine 1 2",
-    ),
-    (
-        "calc rule=chair",
-        "common a b c",
-        13,
-        "",
-        "13 BadScript BadLine 1 3",
-    ),
-    (
-        "calc rule=chair",
-        "let a 0:\ncommon a b",
-        13,
-        "",
-        "13 BadScript UnknownName 2",
-    ),
-    (
-        "calc rule=chair",
-        "let b 0:\ncommon a b",
-        13,
-        "",
-        "13 BadScript UnknownName 2",
-    ),
-    (
-        "calc rule=chair",
-        "pair a",
-        13,
-        "",
-        "13 BadScript BadLine 1 2",
-    ),
-    (
-        "calc rule=chair",
-        "pair a b c",
-        13,
-        "",
-        "13 BadScript BadLine 1 3",
-    ),
-    (
-        "calc rule=chair",
-        "let a 0:\npair a b",
-        13,
-        "",
-        "13 BadScript UnknownName 2",
-    ),
-    (
-        "calc rule=chair",
-        "let b 0:\npair a b",
-        13,
-        "",
-        "13 BadScript UnknownName 2",
-    ),
-    (
-        "calc rule=chair",
-        "let a 3",
-        13,
-        "",
-        "13 BadScript Address 1 BadText 1",
-    ),
-    (
-        "calc rule=chair",
-        "let a 0:4/0",
-        13,
-        "",
-        "13 BadScript Address 1 WrongChild 0",
-    ),
-    (
-        "calc rule=chair",
-        "let a 1:",
-        13,
-        "",
-        "13 BadScript Address 1 UnknownKind 0",
-    ),
-    (
-        "calc rule=chair",
-        "let a 0:0/1",
-        13,
-        "",
-        "13 BadScript Address 1 UnknownKind 1",
-    ),
-    (
-        "calc rule=chair",
-        "let a 0:0/0\nacross a 8 b",
-        13,
-        "",
-        "13 BadScript NoEdge 2",
-    ),
-    (
-        "calc rule=chair",
-        "# one\n\nlet a 0:0/0\nacross a 255 b\n",
-        13,
-        "",
-        "13 BadScript NoEdge 4",
-    ),
-    (
-        "calc rule=chair",
-        "let a 0:0/0\nacross a 4 b",
-        13,
-        "",
-        "13 BadScript Outside 2 4 0",
-    ),
-    (
-        "calc rule=chair",
-        "let a 0:\n\n\nacross a 3 a\n",
-        13,
-        "",
-        "13 BadScript Outside 4 3 0",
-    ),
-    (
-        "calc rule=chair",
-        "let a 0:0/0,0/0\nacross a 3 b",
-        13,
-        "",
-        "13 BadScript Outside 2 3 1",
-    ),
-    (
-        "calc rule=chair",
-        "show a\nshow",
-        13,
-        "",
-        "13 BadScript UnknownName 1",
-    ),
-    (
-        "calc rule=chair",
-        "let a 0:\nshow a\nlet b 0\nshow\n",
-        13,
-        "",
-        "13 BadScript Address 3 BadText 1",
-    ),
-    (
-        "calc rule=chair",
-        "let a 0:0/0\nacross a 0 b\nshow c\nacross b 0\n",
-        13,
-        "",
-        "13 BadScript UnknownName 3",
-    ),
-    (
-        "calc rule=p3",
-        "let a 0:0/0,0/0\nacross a 2 b\n",
-        13,
-        "",
-        "13 BadScript Outside 2 0 1",
-    ),
-    // addresses of depth 64
-    (
-        "calc rule=chair",
-        "let a 0:«0/0,×63»0/0\nacross a 0 b\nacross b 3 c\ncommon a c\ncommon a b\n",
-        0,
-        "b 0:1/0«,0/0×63» 3\nc 0:«0/0,×63»0/0 0\na c 0\na b 1",
-        "",
-    ),
-    (
-        "calc rule=chair",
-        "let a 0:«0/0,×63»0/0\nacross a 0 b\nacross b 3 c\ncommon a c\nacross a 3 d\n",
-        13,
-        "",
-        "13 BadScript Outside 5 3 1",
-    ),
-    (
-        "calc rule=chair",
-        "let a 0:«0/0,×64»0/0\n",
-        13,
-        "",
-        "13 BadScript Address 1 TooDeep",
-    ),
-    (
-        "calc rule=chair",
-        "let a 0:«2/0,×39»2/0\nplace a\n",
-        13,
-        "",
-        "13 BadScript CoordLimit 2 26843544,13421772,0,0",
-    ),
-];
+pub const SCRIPTS: &str = "\
+calc rule=chair | let a 0:0/0,1/0¶across a 4 b¶common a b¶place b¶ | 0 b 0:1/0,0/0 7¶a b 2¶b 0 0 1,1,0,0¶|
+calc rule=chair |  | 0 |
+calc rule=chair | ¶ | 0 |
+calc rule=chair | # show a¶¶#¶ | 0 |
+calc rule=chair | let a 0: | 0 |
+calc rule=chair | let a 0:¶show a | 0 a 0:¶|
+calc rule=chair | let z 0:1/0,2/0¶place z¶ | 0 z 0 1 7,1,0,0¶|
+calc rule=chair | let a 0:¶¶let a 0:3/0¶show a¶ | 0 a 0:3/0¶|
+calc rule=chair | let a 0:0/0¶across a 0 a¶show a¶ | 0 a 0:1/0 3¶a 0:1/0¶|
+calc rule=chair | let a 0:0/0¶across a 0 b¶show a¶across b 3 c¶common a c | 0 b 0:1/0 3¶a 0:0/0¶c 0:0/0 0¶a c 0¶|
+calc rule=chair | let a 0:¶common a a¶ | 0 a a 0¶|
+calc rule=chair | let a 0:¶let b 0:0/0¶common a b¶ | 0 a b none¶|
+calc rule=chair | let a 0:0/0¶let b 0:1/0¶common a b¶ | 0 a b 1¶|
+calc rule=chair | let a 0:0/0,1/0,2/0¶let b 0:0/0,3/0,2/0¶common a b¶common b a¶ | 0 a b 2¶b a 2¶|
+calc rule=chair | let a 0:0/0,1/0,2/0¶let b 0:3/0,1/0,2/0¶common a b¶common a a¶ | 0 a b 1¶a a 0¶|
+calc rule=chair | let a 0:0/0,1/0,2/0¶let b 0:0/0,1/0,3/0¶common a b¶ | 0 a b 3¶|
+calc rule=chair | let a 0:0/0,1/0¶across a 4 b¶pair a b¶ | 0 b 0:1/0,0/0 7¶a b 3/0 4/7¶|
+calc rule=chair | let a 0:0/0,1/0¶across a 4 b¶pair b a¶ | 0 b 0:1/0,0/0 7¶b a 0/3 7/4¶|
+calc rule=chair | let a 0:0/0¶let b 0:2/0¶pair a a¶pair a b¶ | 0 a a same¶a b 6/1¶|
+calc rule=chair | let a 0:0/0¶let b 0:¶pair a b¶ | 0 a b none¶|
+calc rule=chair | let a 0:2/0¶let b 0:3/0¶pair a b¶ | 0 a b apart¶|
+calc rule=chair | let a 0:2/0¶place a¶# | 0 a 0 1 4,0,0,0¶|
+calc rule=chair | let a 0:3/0¶place a¶ | 0 a 0 3 0,4,0,0¶|
+calc rule=p3 | let a 0:0/0¶across a 0 b¶ | 0 b 2:1/0 0¶|
+calc rule=p3 | let a 2:1/0,0/0¶across a 2 a¶place a¶ | 0 a 3:1/2,1/0 0¶a 3 2 1,1,0,0¶|
+calc rule=p3 | let a 0:¶let b 1:¶common a b¶ | 0 a b none¶|
+calc rule=p2 | let a 1:1/0¶across a 0 b¶place a¶ | 0 b 0:2/0 2¶a 1 4 2,0,1,-1¶|
+calc rule=ab | let a 1:1/0,6/0¶across a 0 c¶ | 0 c 2:0/2,2/0 2¶|
+calc rule=ab | let a 0:3/0¶place a¶ | 0 a 0 4 2,2,1,-1¶|
+calc rule=chair | show c | 13 |13 BadScript UnknownName 1¶
+calc rule=chair | show | 13 |13 BadScript BadLine 1 1¶
+calc rule=chair | show a b | 13 |13 BadScript BadLine 1 2¶
+calc rule=chair | show A | 13 |13 BadScript BadLine 1 1¶
+calc rule=chair | show ab | 13 |13 BadScript BadLine 1 1¶
+calc rule=chair | show  a | 13 |13 BadScript BadLine 1 1¶
+calc rule=chair | show a  | 13 |13 BadScript BadLine 1 2¶
+calc rule=chair | show ` | 13 |13 BadScript BadLine 1 1¶
+calc rule=chair | show { | 13 |13 BadScript BadLine 1 1¶
+calc rule=chair | Show a | 13 |13 BadScript BadLine 1 0¶
+calc rule=chair |  show a | 13 |13 BadScript BadLine 1 0¶
+calc rule=chair |   | 13 |13 BadScript BadLine 1 0¶
+calc rule=chair |  # show a | 13 |13 BadScript BadLine 1 0¶
+calc rule=chair | show a␍ | 13 |13 BadScript BadLine 1 1¶
+calc rule=chair | ␍¶ | 13 |13 BadScript BadLine 1 0¶
+calc rule=chair | let | 13 |13 BadScript BadLine 1 1¶
+calc rule=chair | let a | 13 |13 BadScript BadLine 1 2¶
+calc rule=chair | let a  | 13 |13 BadScript BadLine 1 2¶
+calc rule=chair | let a 0: 0 | 13 |13 BadScript BadLine 1 3¶
+calc rule=chair | let 0 0: | 13 |13 BadScript BadLine 1 1¶
+calc rule=chair | place | 13 |13 BadScript BadLine 1 1¶
+calc rule=chair | place a a | 13 |13 BadScript BadLine 1 2¶
+calc rule=chair | place a | 13 |13 BadScript UnknownName 1¶
+calc rule=chair | across a 256 b | 13 |13 BadScript BadLine 1 2¶
+calc rule=chair | across a 01 b | 13 |13 BadScript BadLine 1 2¶
+calc rule=chair | across a -1 b | 13 |13 BadScript BadLine 1 2¶
+calc rule=chair | across a 1 | 13 |13 BadScript BadLine 1 3¶
+calc rule=chair | across a 1 b c | 13 |13 BadScript BadLine 1 4¶
+calc rule=chair | across a 1 b c d e | 13 |13 BadScript BadLine 1 4¶
+calc rule=chair | across a 255 b | 13 |13 BadScript UnknownName 1¶
+calc rule=chair | common a | 13 |13 BadScript BadLine 1 2¶
+calc rule=chair | common a b c | 13 |13 BadScript BadLine 1 3¶
+calc rule=chair | let a 0:¶common a b | 13 |13 BadScript UnknownName 2¶
+calc rule=chair | let b 0:¶common a b | 13 |13 BadScript UnknownName 2¶
+calc rule=chair | pair a | 13 |13 BadScript BadLine 1 2¶
+calc rule=chair | pair a b c | 13 |13 BadScript BadLine 1 3¶
+calc rule=chair | let a 0:¶pair a b | 13 |13 BadScript UnknownName 2¶
+calc rule=chair | let b 0:¶pair a b | 13 |13 BadScript UnknownName 2¶
+calc rule=chair | let a 3 | 13 |13 BadScript Address 1 BadText 1¶
+calc rule=chair | let a 0:4/0 | 13 |13 BadScript Address 1 WrongChild 0¶
+calc rule=chair | let a 1: | 13 |13 BadScript Address 1 UnknownKind 0¶
+calc rule=chair | let a 0:0/1 | 13 |13 BadScript Address 1 UnknownKind 1¶
+calc rule=chair | let a 0:0/0¶across a 8 b | 13 |13 BadScript NoEdge 2¶
+calc rule=chair | # one¶¶let a 0:0/0¶across a 255 b¶ | 13 |13 BadScript NoEdge 4¶
+calc rule=chair | let a 0:0/0¶across a 4 b | 13 |13 BadScript Outside 2 4 0¶
+calc rule=chair | let a 0:¶¶¶across a 3 a¶ | 13 |13 BadScript Outside 4 3 0¶
+calc rule=chair | let a 0:0/0,0/0¶across a 3 b | 13 |13 BadScript Outside 2 3 1¶
+calc rule=chair | show a¶show | 13 |13 BadScript UnknownName 1¶
+calc rule=chair | let a 0:¶show a¶let b 0¶show¶ | 13 |13 BadScript Address 3 BadText 1¶
+calc rule=chair | let a 0:0/0¶across a 0 b¶show c¶across b 0¶ | 13 |13 BadScript UnknownName 3¶
+calc rule=p3 | let a 0:0/0,0/0¶across a 2 b¶ | 13 |13 BadScript Outside 2 0 1¶
+# addresses of depth 64
+calc rule=chair | let a 0:«0/0,×63»0/0¶across a 0 b¶across b 3 c¶common a c¶common a b¶ | 0 b 0:1/0«,0/0×63» 3¶c 0:«0/0,×63»0/0 0¶a c 0¶a b 1¶|
+calc rule=chair | let a 0:«0/0,×63»0/0¶across a 0 b¶across b 3 c¶common a c¶across a 3 d¶ | 13 |13 BadScript Outside 5 3 1¶
+calc rule=chair | let a 0:«0/0,×64»0/0¶ | 13 |13 BadScript Address 1 TooDeep¶
+calc rule=chair | let a 0:«2/0,×39»2/0¶place a¶ | 13 |13 BadScript CoordLimit 2 26843544,13421772,0,0¶";
 
 /// Scripts of a mebibyte, of a comment and of lines, and of a byte more.
-pub static LONG_SCRIPTS: [Row; 4] = [
-    ("calc rule=halfhex", "«#×1048576»", 0, "", ""),
-    ("calc rule=halfhex", "«\n×1048576»", 0, "", ""),
-    (
-        "calc rule=halfhex",
-        "«\n×1048570»show a",
-        13,
-        "",
-        "13 BadScript UnknownName 1048571",
-    ),
-    (
-        "calc rule=halfhex",
-        "«#×1048577»",
-        13,
-        "",
-        "13 BadScript TooLong",
-    ),
-];
+pub const LONG_SCRIPTS: &str = "\
+calc rule=halfhex | «#×1048576» | 0 |
+calc rule=halfhex | «¶×1048576» | 0 |
+calc rule=halfhex | «¶×1048570»show a | 13 |13 BadScript UnknownName 1048571¶
+calc rule=halfhex | «#×1048577» | 13 |13 BadScript TooLong¶";

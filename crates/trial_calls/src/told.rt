@@ -41,8 +41,50 @@ fn one_list(alloc: Global) -> Result<Vec<Box<dyn Layer>>, NoMemory> {
     Ok(layers)
 }
 
-/// Runs a line of arguments over a source, with a layer that lists tiles. Returns the exit code, the output,
-/// and after a bar the notes.
+/// Runs words over streams, with a layer that lists tiles. Returns the exit code.
+fn ended(
+    alloc: Global,
+    words: &Vec<String>,
+    source: &mut MemSource,
+    sink: &mut MemSink,
+    notes: &mut MemSink,
+) -> Result<u8, NoMemory> {
+    let layers = one_list(alloc)?;
+    Ok(run(alloc, words, source, sink, notes, layers).code())
+}
+
+/// An exit code, what was printed, and after a bar what was noted.
+fn text_of(alloc: Global, code: u8, sink: &MemSink, notes: &MemSink) -> Result<String, AllocError> {
+    let printed = str::from_utf8(sink.taken()).unwrap_or("?");
+    let noted = str::from_utf8(notes.taken()).unwrap_or("?");
+    format!(in alloc; "{code} {printed}|{noted}")
+}
+
+/// Runs words over a source and a sink. Returns what comes of it as a text.
+fn told_into(
+    alloc: Global,
+    words: &Vec<String>,
+    source: &mut MemSource,
+    sink: &mut MemSink,
+    room: usize,
+) -> Result<String, NoMemory> {
+    let mut notes = MemSink::new(alloc, room, 1, Vec::new(alloc))?;
+    let code = ended(alloc, words, source, sink, &mut notes)?;
+    Ok(text_of(alloc, code, sink, &notes)?)
+}
+
+/// The same with a sink of its own.
+fn told_of(
+    alloc: Global,
+    words: &Vec<String>,
+    source: &mut MemSource,
+    failing: &Failing,
+) -> Result<String, NoMemory> {
+    let mut sink = MemSink::new(alloc, failing.writes, 1, Vec::new(alloc))?;
+    told_into(alloc, words, source, &mut sink, failing.notes)
+}
+
+/// Runs a line of arguments over a source. Returns the exit code, the output, and after a bar the notes.
 pub fn told_over(
     alloc: Global,
     line: &str,
@@ -50,13 +92,7 @@ pub fn told_over(
     failing: &Failing,
 ) -> Result<String, NoMemory> {
     let words = words_of(alloc, line)?;
-    let mut sink = MemSink::new(alloc, failing.writes, 1, Vec::new(alloc))?;
-    let mut notes = MemSink::new(alloc, failing.notes, 1, Vec::new(alloc))?;
-    let layers = one_list(alloc)?;
-    let status = run(alloc, &words, source, &mut sink, &mut notes, layers);
-    let printed = str::from_utf8(sink.taken()).unwrap_or("?");
-    let noted = str::from_utf8(notes.taken()).unwrap_or("?");
-    Ok(format!(in alloc; "{} {printed}|{noted}", status.code())?)
+    told_of(alloc, &words, source, failing)
 }
 
 /// Like [`told_over`], over a source of these bytes that gives 16 a call.

@@ -1,4 +1,5 @@
 //! Trials of the words of a call: requests, and the places of wrong words.
+use crate::calls::first_field;
 use crate::told::words_of;
 use crate::wrong::Wrong;
 use builtin_rules::name::Name;
@@ -7,71 +8,52 @@ use call_words::rule_choice::RuleChoice;
 use layer_api::format::Format;
 use std::alloc::{AllocError, Global};
 
-/// Lines that are refused, each with the place of its first wrong word.
-static REFUSED: [(&str, usize); 44] = [
-    ("", 0),
-    ("place rule=chair", 2),
-    ("place rule=chair addr=0: addr=0:", 3),
-    ("place addr=0: rule=hat", 2),
-    ("cross rule=chair addr=0:", 0),
-    ("Place rule=chair addr=0:", 0),
-    ("place", 1),
-    ("place rule=p4 addr=0:", 1),
-    ("place addr rule=chair", 1),
-    ("place rule=chair edge=0", 2),
-    ("place =chair", 1),
-    ("place rule=chair rule=hat", 2),
-    ("neighbour rule=chair addr=0:", 3),
-    ("neighbour rule=chair addr=0: edge=256", 3),
-    ("neighbour rule=chair addr=0: edge=00", 3),
-    ("neighbour rule=chair addr=0: edge=-1", 3),
-    ("neighbour rule=chair edge= addr=0:", 2),
-    ("walk rule=chair addr=0: grow=65", 3),
-    ("walk rule=chair addr=0: seed=18446744073709551616", 3),
-    ("walk rule=chair addr=0: path=", 3),
-    ("walk rule=chair addr=0: path=0,", 3),
-    ("walk rule=chair addr=0: path=256", 3),
-    ("draw rule=chair addr=0: at=0,0,0 half=1,1 layers=list", 3),
-    (
-        "draw rule=chair addr=0: at=0,0,0,0,0 half=1,1 layers=list",
-        3,
-    ),
-    (
-        "draw rule=chair addr=0: at=0,0,0,-0 half=1,1 layers=list",
-        3,
-    ),
-    (
-        "draw rule=chair addr=0: at=1048577,0,0,0 half=1,1 layers=list",
-        3,
-    ),
-    ("draw rule=chair addr=0: at=0,0,0,0 half=0,1 layers=list", 4),
-    (
-        "draw rule=chair addr=0: at=0,0,0,0 half=1,4097 layers=list",
-        4,
-    ),
-    ("draw rule=chair addr=0: at=0,0,0,0 half=1 layers=list", 4),
-    ("draw rule=chair addr=0: at=0,0,0,0 half=1,1 layers=", 5),
-    (
-        "draw rule=chair addr=0: at=0,0,0,0 half=1,1 layers=list,list",
-        5,
-    ),
-    ("draw rule=chair addr=0: at=0,0,0,0 half=1,1 layers=png", 5),
-    ("draw rule=chair addr=0: at=0,0,0,0 half=1,1", 5),
-    (
-        "draw rule=chair addr=0: at=0,0,0,0 half=1,1 layers=svg glue=maybe",
-        6,
-    ),
-    ("check", 1),
-    ("check rule=half", 1),
-    ("check rule=chair seed=1", 2),
-    ("calc", 1),
-    ("calc rule=-", 1),
-    ("drill rule=chair n=0", 2),
-    ("drill rule=chair n=201", 2),
-    ("drill rule=chair", 2),
-    ("star rule=chair addr=0:", 3),
-    ("verify rule=- addr=0: at=0,0,0,0 half=1,1", 1),
-];
+/// The places of the first wrong words, and the lines that are refused there.
+const REFUSED: &str = "\
+0 | 
+2 | place rule=chair
+3 | place rule=chair addr=0: addr=0:
+2 | place addr=0: rule=hat
+0 | cross rule=chair addr=0:
+0 | Place rule=chair addr=0:
+1 | place
+1 | place rule=p4 addr=0:
+1 | place addr rule=chair
+2 | place rule=chair edge=0
+1 | place =chair
+2 | place rule=chair rule=hat
+3 | neighbour rule=chair addr=0:
+3 | neighbour rule=chair addr=0: edge=256
+3 | neighbour rule=chair addr=0: edge=00
+3 | neighbour rule=chair addr=0: edge=-1
+2 | neighbour rule=chair edge= addr=0:
+3 | walk rule=chair addr=0: grow=65
+3 | walk rule=chair addr=0: seed=18446744073709551616
+3 | walk rule=chair addr=0: path=
+3 | walk rule=chair addr=0: path=0,
+3 | walk rule=chair addr=0: path=256
+3 | draw rule=chair addr=0: at=0,0,0 half=1,1 layers=list
+3 | draw rule=chair addr=0: at=0,0,0,0,0 half=1,1 layers=list
+3 | draw rule=chair addr=0: at=0,0,0,-0 half=1,1 layers=list
+3 | draw rule=chair addr=0: at=1048577,0,0,0 half=1,1 layers=list
+4 | draw rule=chair addr=0: at=0,0,0,0 half=0,1 layers=list
+4 | draw rule=chair addr=0: at=0,0,0,0 half=1,4097 layers=list
+4 | draw rule=chair addr=0: at=0,0,0,0 half=1 layers=list
+5 | draw rule=chair addr=0: at=0,0,0,0 half=1,1 layers=
+5 | draw rule=chair addr=0: at=0,0,0,0 half=1,1 layers=list,list
+5 | draw rule=chair addr=0: at=0,0,0,0 half=1,1 layers=png
+5 | draw rule=chair addr=0: at=0,0,0,0 half=1,1
+6 | draw rule=chair addr=0: at=0,0,0,0 half=1,1 layers=svg glue=maybe
+1 | check
+1 | check rule=half
+2 | check rule=chair seed=1
+1 | calc
+1 | calc rule=-
+2 | drill rule=chair n=0
+2 | drill rule=chair n=201
+2 | drill rule=chair
+3 | star rule=chair addr=0:
+1 | verify rule=- addr=0: at=0,0,0,0 half=1,1";
 
 /// The place at which a line is refused.
 fn place_refused(alloc: Global, line: &str) -> Result<Option<usize>, AllocError> {
@@ -154,11 +136,16 @@ fn asks_for_draw(alloc: Global, line: &str, formats: &[Format]) -> Result<bool, 
     })
 }
 
+/// Returns true if a line is refused at the place before it.
+fn is_refused(alloc: Global, row: &str) -> Result<bool, AllocError> {
+    let (place, line) = first_field(row);
+    Ok(place_refused(alloc, line)? == place.parse().ok())
+}
+
 /// Notes the first line that is read otherwise.
 pub fn note_words(alloc: Global, wrong: &mut Wrong) {
-    for (line, place) in &REFUSED {
-        let refused = place_refused(alloc, line).unwrap_or(None);
-        wrong.note(line, *place, refused == Some(*place));
+    for (number, row) in REFUSED.split('\n').enumerate() {
+        wrong.note(row, number, is_refused(alloc, row).unwrap_or(false));
     }
     for (row, walk) in WALKS.iter().enumerate() {
         wrong.note("walks", row, asks_for_walk(alloc, walk).unwrap_or(false));

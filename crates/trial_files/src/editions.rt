@@ -1,6 +1,6 @@
 //! Files of both formats, and the rules of both editions that are written.
 use crate::chair_rule::{CHAIR, chair, is_chair, is_read_to_chair};
-use crate::wrong::note;
+use crate::wrong::Wrong;
 use cyclo_points::order::Order;
 use rule_model::edition::Edition;
 use rule_model::rule::Rule;
@@ -233,14 +233,14 @@ fn goes_both_ways(alloc: Global, edition: Edition, head: &str) -> Result<bool, T
     )
 }
 
-/// Notes the files that are read otherwise, and the formats that are written otherwise.
-pub fn note_editions(alloc: Global, wrong: &mut String) -> Result<(), TextFault> {
-    note(wrong, "the chair", is_read_to_chair(alloc, CHAIR))?;
-    for row in &READ {
-        note(wrong, row.2, is_read(alloc, row)?)?;
+/// Notes the first file that is read otherwise, or format that is written otherwise.
+pub fn note_editions(alloc: Global, wrong: &mut Wrong) {
+    wrong.note("the chair", 0, is_read_to_chair(alloc, CHAIR));
+    for (row, read) in READ.iter().enumerate() {
+        wrong.note(read.2, row, is_read(alloc, read).unwrap_or(false));
     }
-    for (edition, head) in &FORMATS {
-        note(wrong, head, goes_both_ways(alloc, *edition, head)?)?;
+    for (row, (edition, head)) in FORMATS.iter().enumerate() {
+        let is_right = goes_both_ways(alloc, *edition, head);
+        wrong.note(head, row, is_right.unwrap_or(false));
     }
-    Ok(())
 }

@@ -2,12 +2,11 @@
 use crate::chair_rule::{CHAIR, is_read_to_chair};
 use crate::editions::note_editions;
 use crate::faults::{HEAD, fault_of};
-use crate::wrong::note;
+use crate::wrong::{NONE, Wrong};
 use rule_text::key::Key;
 use rule_text::place::Place;
 use rule_text::text_fault::TextFault;
 use std::alloc::{AllocError, Global};
-use std::test::Fail;
 
 const VERTICES: Key = Key::Vertices { kind: 0 };
 
@@ -122,30 +121,25 @@ fn are_lists(alloc: Global, lists: &str) -> Result<bool, AllocError> {
     Ok(fault_of(alloc, text.as_str()).is_none())
 }
 
-/// Notes the files that come out otherwise.
-fn note_files(alloc: Global, wrong: &mut String) -> Result<(), AllocError> {
-    for (piece, other, fault) in &FAULTS {
-        note(wrong, other, has_fault(alloc, piece, other, *fault)?)?;
+/// Notes the first file that comes out otherwise.
+fn note_files(alloc: Global, wrong: &mut Wrong) {
+    for (row, (piece, other, fault)) in FAULTS.iter().enumerate() {
+        let is_right = has_fault(alloc, piece, other, *fault);
+        wrong.note(other, row, is_right.unwrap_or(false));
     }
-    for (piece, other) in &SPELLINGS {
-        note(wrong, other, is_spelling(alloc, piece, other)?)?;
+    for (row, (piece, other)) in SPELLINGS.iter().enumerate() {
+        let is_right = is_spelling(alloc, piece, other);
+        wrong.note(other, row, is_right.unwrap_or(false));
     }
-    for lists in &LISTS {
-        note(wrong, lists, are_lists(alloc, lists)?)?;
+    for (row, lists) in LISTS.iter().enumerate() {
+        wrong.note(lists, row, are_lists(alloc, lists).unwrap_or(false));
     }
-    Ok(())
-}
-
-/// The files that come out otherwise.
-fn wrong_files(alloc: Global) -> Result<String, TextFault> {
-    let mut wrong = String::new(alloc);
-    note_files(alloc, &mut wrong)?;
-    note_editions(alloc, &mut wrong)?;
-    Ok(wrong)
 }
 
 #[test]
-fn files(rt: HostRuntime) -> Result<(), Fail> {
-    assert_eq!(rt; wrong_files(rt.alloc())?.as_str(), "");
-    Ok(())
+fn files(rt: HostRuntime) {
+    let mut wrong = NONE;
+    note_files(rt.alloc(), &mut wrong);
+    note_editions(rt.alloc(), &mut wrong);
+    assert_eq!(rt; wrong.name, "", "row {}", wrong.row);
 }

@@ -1,61 +1,63 @@
 //! Files that are no documents, and documents that strain a reader; and the faults of all texts.
-use crate::faults::{HEAD, fault_of, note_faults};
+use crate::faults::{HEAD, Row, fault_of, note_faults, spelled};
 use crate::heads::note_heads;
 use crate::kinds::note_kinds;
 use crate::types::note_types;
-use crate::wrong::note;
+use crate::wrong::{NONE, Wrong};
 use rule_text::key::Key;
 use rule_text::place::Place;
 use rule_text::reading::{LONGEST_FILE, read_rule};
 use rule_text::text_fault::TextFault;
 use std::alloc::{AllocError, Global};
-use std::test::Fail;
 
-/// No documents, whatever their keys are.
-static NO_DOCUMENTS: [&str; 23] = [
-    "format",
-    "format 1",
-    "format =",
-    "= 1",
-    "format = 1 order = 4",
-    "format = 1\rorder = 4",
-    "format = 1\n\u{0}",
-    "format = 01",
-    "format = 1__0",
-    "format = +0x01",
-    "[[type]",
-    "lambda = [2, 0, 0, 0",
-    // Numbers beyond 64 bits.
-    "format = 9223372036854775808",
-    "order = -9223372036854775809",
-    "lambda = [2, 0, 0, 18446744073709551616]",
-    "[[type]]\nmate = 0x10000000000000000",
-    "[[kind]]\nchildren = [[0, 0, 99999999999999999999, 0, 0, 0]]",
-    // A key that is given twice.
-    "format = 1\nformat = 1",
-    "order = 4\n\"order\" = 4",
-    "type = []\n[[type]]",
-    "[[type]]\n[type]",
-    "type = [{mate = 0, mate = 0, parts = [0, 0]}]",
-    "[[kind]]\nedges = []\nedges = []",
-];
+/// No documents, whatever their keys are: each a line. Some have numbers beyond 64 bits, and some a key that
+/// is given twice.
+const NO_DOCUMENTS: &str = "\
+format
+format 1
+format =
+= 1
+format = 1 order = 4
+format = 1␍order = 4
+format = 01
+format = 1__0
+format = +0x01
+[[type]
+lambda = [2, 0, 0, 0
+format = 9223372036854775808
+order = -9223372036854775809
+lambda = [2, 0, 0, 18446744073709551616]
+[[type]]¶mate = 0x10000000000000000
+[[kind]]¶children = [[0, 0, 99999999999999999999, 0, 0, 0]]
+format = 1¶format = 1
+order = 4¶\"order\" = 4
+type = []¶[[type]]
+[[type]]¶[type]
+type = [{mate = 0, mate = 0, parts = [0, 0]}]
+[[kind]]¶edges = []¶edges = []";
 
 /// Documents with other line ends, with other spellings of their keys, and with further ones.
-static DOCUMENTS: [(&str, TextFault); 5] = [
-    ("\r\n", TextFault::Missing { key: Key::Format }),
-    ("format = 1\r\n", TextFault::Missing { key: Key::Order }),
-    ("\u{feff}format = 1", TextFault::Missing { key: Key::Order }),
-    ("'format' = 1", TextFault::Missing { key: Key::Order }),
+static DOCUMENTS: [Row; 2] = [
     (
-        "\"\\u0066ormat\" = 1",
+        TextFault::Missing { key: Key::Format },
+        "\
+␍¶",
+    ),
+    (
         TextFault::Missing { key: Key::Order },
+        "\
+format = 1␍¶
+﻿format = 1
+'format' = 1
+\"\\u0066ormat\" = 1",
     ),
 ];
 
 /// A document with a further key before its lists.
-static FURTHER: [(&str, TextFault); 1] = [(
-    "name = \"x\"\nkind = []\ntype = []\n",
+static FURTHER: [Row; 1] = [(
     TextFault::UnknownKey { place: Place::Top },
+    "\
+name = \"x\"¶kind = []¶type = []¶",
 )];
 
 /// A name, pieces with how often each is repeated, and the fault of the text: brackets that open and close,
@@ -116,32 +118,34 @@ fn is_no_document(alloc: Global, bytes: &[u8]) -> bool {
     bytes.len() <= LONGEST_FILE && read_rule(alloc, bytes).err() == Some(TextFault::NotToml)
 }
 
-/// Notes the documents, and what is none, that come out otherwise.
-fn note_documents(alloc: Global, wrong: &mut String) -> Result<(), AllocError> {
-    note(wrong, "xff", is_no_document(alloc, b"\xff"))?;
-    note(wrong, "xc3", is_no_document(alloc, b"format = 1 # \xc3"))?;
-    for text in &NO_DOCUMENTS {
-        note(wrong, text, is_no_document(alloc, text.as_bytes()))?;
-    }
-    for (name, pieces, fault) in &REPEATED {
-        note(wrong, name, fault_of_many(alloc, pieces)? == Some(*fault))?;
-    }
-    note_faults(alloc, wrong, &[], &DOCUMENTS)?;
-    note_faults(alloc, wrong, &[HEAD], &FURTHER)
+/// Returns true if a line is no document.
+fn is_no_line(alloc: Global, line: &str) -> Result<bool, AllocError> {
+    let text = spelled(alloc, line)?;
+    Ok(is_no_document(alloc, text.as_bytes()))
 }
 
-/// The texts that have other faults.
-fn wrong_faults(alloc: Global) -> Result<String, AllocError> {
-    let mut wrong = String::new(alloc);
-    note_heads(alloc, &mut wrong)?;
-    note_types(alloc, &mut wrong)?;
-    note_kinds(alloc, &mut wrong)?;
-    note_documents(alloc, &mut wrong)?;
-    Ok(wrong)
+/// Notes the first document, or what is none, that comes out otherwise.
+fn note_documents(alloc: Global, wrong: &mut Wrong) {
+    wrong.note("xff", 0, is_no_document(alloc, b"\xff"));
+    wrong.note("xc3", 0, is_no_document(alloc, b"format = 1 # \xc3"));
+    wrong.note("nul", 0, is_no_document(alloc, b"format = 1\n\0"));
+    for (row, line) in NO_DOCUMENTS.split('\n').enumerate() {
+        wrong.note(line, row, is_no_line(alloc, line).unwrap_or(false));
+    }
+    for (name, pieces, fault) in &REPEATED {
+        let told = fault_of_many(alloc, pieces).unwrap_or(None);
+        wrong.note(name, 0, told == Some(*fault));
+    }
+    note_faults(alloc, wrong, &[], &DOCUMENTS);
+    note_faults(alloc, wrong, &[HEAD], &FURTHER);
 }
 
 #[test]
-fn faults(rt: HostRuntime) -> Result<(), Fail> {
-    assert_eq!(rt; wrong_faults(rt.alloc())?.as_str(), "");
-    Ok(())
+fn faults(rt: HostRuntime) {
+    let mut wrong = NONE;
+    note_heads(rt.alloc(), &mut wrong);
+    note_types(rt.alloc(), &mut wrong);
+    note_kinds(rt.alloc(), &mut wrong);
+    note_documents(rt.alloc(), &mut wrong);
+    assert_eq!(rt; wrong.name, "", "row {}", wrong.row);
 }

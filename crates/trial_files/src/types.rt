@@ -1,9 +1,10 @@
 //! Faults of the types.
-use crate::faults::{HEAD, TYPES, note_faults};
+use crate::faults::{HEAD, Row, TYPES, note_faults};
+use crate::wrong::Wrong;
 use rule_text::key::Key;
 use rule_text::place::Place;
 use rule_text::text_fault::TextFault;
-use std::alloc::{AllocError, Global};
+use std::alloc::Global;
 
 const LIST: Key = Key::TypeList;
 
@@ -15,83 +16,91 @@ const PARTS: Key = Key::Parts { ty: 0 };
 
 const PLACE: Place = Place::InType { ty: 0 };
 
-static LIST_ROWS: [(&str, TextFault); 15] = [
-    ("", TextFault::Missing { key: LIST }),
-    ("name = 1\nkind = 2", TextFault::Missing { key: LIST }),
-    ("type = {}", TextFault::WrongType { key: LIST }),
+static LIST_ROWS: [Row; 4] = [
     (
-        "[type]\nmate = 0\nparts = [0, 0]",
+        TextFault::Missing { key: LIST },
+        "\
+
+name = 1¶kind = 2",
+    ),
+    (
         TextFault::WrongType { key: LIST },
+        "\
+type = {}
+[type]¶mate = 0¶parts = [0, 0]
+type = [3]
+type = [{}, 3]
+type = 3
+type = 'x'
+type = [[]]
+type = [3, {}]
+type.mate = 0",
     ),
-    ("type = [3]", TextFault::WrongType { key: LIST }),
-    ("type = [{}, 3]", TextFault::WrongType { key: LIST }),
-    ("type = 3", TextFault::WrongType { key: LIST }),
-    ("type = 'x'", TextFault::WrongType { key: LIST }),
-    ("type = [[]]", TextFault::WrongType { key: LIST }),
-    ("type = [3, {}]", TextFault::WrongType { key: LIST }),
-    ("type.mate = 0", TextFault::WrongType { key: LIST }),
-    ("type = []", TextFault::Missing { key: KINDS }),
     (
-        "type = [{mate = 0, parts = []}]",
         TextFault::Missing { key: KINDS },
+        "\
+type = []
+type = [{mate = 0, parts = []}]
+type = [{mate = 0, parts = [0, 0]}]",
     ),
-    ("type = [{}]", TextFault::Missing { key: MATE }),
     (
-        "type = [{mate = 0, parts = [0, 0]}]",
-        TextFault::Missing { key: KINDS },
+        TextFault::Missing { key: MATE },
+        "\
+type = [{}]",
     ),
 ];
 
 /// Texts after the header of the first type.
-static ENTRY_ROWS: [(&str, TextFault); 22] = [
-    ("", TextFault::Missing { key: MATE }),
-    ("name = 1\nparts = 0", TextFault::Missing { key: MATE }),
-    ("mate = true", TextFault::WrongType { key: MATE }),
-    ("mate = 0\nparts = 0", TextFault::WrongType { key: PARTS }),
+static ENTRY_ROWS: [Row; 7] = [
     (
-        "mate = 0\nparts = [32, 1.5]",
+        TextFault::Missing { key: MATE },
+        "\
+
+name = 1¶parts = 0",
+    ),
+    (
+        TextFault::WrongType { key: MATE },
+        "\
+mate = true
+mate = [0]
+mate = 0.0
+mate.name = 0",
+    ),
+    (
         TextFault::WrongType { key: PARTS },
-    ),
-    ("mate = [0]", TextFault::WrongType { key: MATE }),
-    ("mate = 0.0", TextFault::WrongType { key: MATE }),
-    ("mate.name = 0", TextFault::WrongType { key: MATE }),
-    ("mate = 0\nparts = {}", TextFault::WrongType { key: PARTS }),
-    (
-        "mate = 0\nparts = [[0]]",
-        TextFault::WrongType { key: PARTS },
+        "\
+mate = 0¶parts = 0
+mate = 0¶parts = [32, 1.5]
+mate = 0¶parts = {}
+mate = 0¶parts = [[0]]
+mate = 0¶parts = [0, '0']",
     ),
     (
-        "mate = 0\nparts = [0, '0']",
-        TextFault::WrongType { key: PARTS },
-    ),
-    ("mate = 32", TextFault::OutOfRange { key: MATE }),
-    ("mate = -1\nparts = 0", TextFault::OutOfRange { key: MATE }),
-    (
-        "mate = 0\nparts = [32]\nname = 1",
-        TextFault::OutOfRange { key: PARTS },
-    ),
-    ("mate = 256", TextFault::OutOfRange { key: MATE }),
-    (
-        "mate = 9223372036854775807",
         TextFault::OutOfRange { key: MATE },
+        "\
+mate = 32
+mate = -1¶parts = 0
+mate = 256
+mate = 9223372036854775807",
     ),
     (
-        "mate = 0\nparts = [-1]",
         TextFault::OutOfRange { key: PARTS },
+        "\
+mate = 0¶parts = [32]¶name = 1
+mate = 0¶parts = [-1]
+mate = 0¶parts = [0, 4294967296]",
     ),
     (
-        "mate = 0\nparts = [0, 4294967296]",
-        TextFault::OutOfRange { key: PARTS },
+        TextFault::Missing { key: PARTS },
+        "\
+mate = 31
+mate = 0¶name = 1",
     ),
-    ("mate = 31", TextFault::Missing { key: PARTS }),
-    ("mate = 0\nname = 1", TextFault::Missing { key: PARTS }),
     (
-        "mate = 0\nparts = []\nname = 1\n[[type]]",
         TextFault::UnknownKey { place: PLACE },
-    ),
-    (
-        "mate = 0\nparts = []\nname = 1\n[kind]",
-        TextFault::UnknownKey { place: PLACE },
+        "\
+mate = 0¶parts = []¶name = 1¶[[type]]
+mate = 0¶parts = []¶name = 1¶[kind]",
     ),
 ];
 
@@ -100,21 +109,23 @@ const NEXT_MATE: Key = Key::Mate { ty: 1 };
 const NEXT_PLACE: Place = Place::InType { ty: 1 };
 
 /// Texts after the first type.
-static NEXT_ROWS: [(&str, TextFault); 3] = [
-    ("", TextFault::Missing { key: KINDS }),
+static NEXT_ROWS: [Row; 3] = [
+    (TextFault::Missing { key: KINDS }, ""),
     (
-        "[[type]]\nparts = []",
         TextFault::Missing { key: NEXT_MATE },
+        "\
+[[type]]¶parts = []",
     ),
     (
-        "[[type]]\nmate = 0\nparts = [31]\nmates = 0",
         TextFault::UnknownKey { place: NEXT_PLACE },
+        "\
+[[type]]¶mate = 0¶parts = [31]¶mates = 0",
     ),
 ];
 
 /// Notes the faults of types that come out otherwise.
-pub fn note_types(alloc: Global, wrong: &mut String) -> Result<(), AllocError> {
-    note_faults(alloc, wrong, &[HEAD], &LIST_ROWS)?;
-    note_faults(alloc, wrong, &[HEAD, "[[type]]\n"], &ENTRY_ROWS)?;
-    note_faults(alloc, wrong, &[HEAD, TYPES], &NEXT_ROWS)
+pub fn note_types(alloc: Global, wrong: &mut Wrong) {
+    note_faults(alloc, wrong, &[HEAD], &LIST_ROWS);
+    note_faults(alloc, wrong, &[HEAD, "[[type]]\n"], &ENTRY_ROWS);
+    note_faults(alloc, wrong, &[HEAD, TYPES], &NEXT_ROWS);
 }

@@ -9,7 +9,6 @@ use layer_api::layer::Layer;
 use layer_api::view::View;
 use layer_svg::svg_layer::SvgLayer;
 use std::alloc::{AllocError, Global};
-use std::test::Fail;
 use tile_shape::no_memory::NoMemory;
 
 /// The number of tiles drawn: the texts of vertices are kept from about 2,300 on.
@@ -78,11 +77,11 @@ fn has_paths(
     Ok(layer.bytes() == wanted(alloc, path)?.as_slice())
 }
 
-/// Texts that are kept are those of the view: the same tile round two centres, by one layer.
-#[test]
-fn kept_texts(rt: HostRuntime) -> Result<(), Fail> {
-    let mut layer = SvgLayer::new(rt.alloc());
-    assert!(rt; has_paths(rt.alloc(), &mut layer, &KITE[2], ROUND_THE_THIRD)?);
-    assert!(rt; has_paths(rt.alloc(), &mut layer, &KITE[0], ROUND_THE_FIRST)?);
-    Ok(())
+/// Returns true if texts that are kept are those of the view: the same tile round two centres, by one layer.
+pub(crate) fn are_kept(alloc: Global) -> Result<bool, NoMemory> {
+    let mut layer = SvgLayer::new(alloc);
+    Ok(
+        has_paths(alloc, &mut layer, &KITE[2], ROUND_THE_THIRD)?
+            && has_paths(alloc, &mut layer, &KITE[0], ROUND_THE_FIRST)?,
+    )
 }

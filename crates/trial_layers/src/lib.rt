@@ -14,3 +14,5 @@ mod refusing;
 mod texts;
 #[cfg(test)]
 mod tiles;
+#[cfg(test)]
+mod wrong;

@@ -1,16 +1,19 @@
 //! A layer that refuses at one of its calls: the drawing ends there.
 use crate::texts::CHAIRS_LIST;
 use crate::tiles::drawn;
+use crate::wrong::Wrong;
 use layer_list::list_layer::ListLayer;
+use std::alloc::Global;
 use trial_refusing_layer::refusing::Refusing;
 
-/// Each call refused in turn, and none.
-#[test]
-fn each_call_refused(rt: HostRuntime) {
-    let alloc = rt.alloc();
-    for refused in 1..5u32 {
-        let mut layer = Refusing::new(ListLayer::new(alloc), refused);
-        let wanted = if refused == 4 { Some(true) } else { None };
-        assert!(rt; drawn(&mut layer, CHAIRS_LIST) == wanted);
+/// The number of the call that is refused, and whether two chairs are drawn: each call refused in turn, and
+/// none.
+static CALLS: [(u32, Option<bool>); 4] = [(1, None), (2, None), (3, None), (4, Some(true))];
+
+/// Notes the first refused call at which the drawing doesn't end.
+pub(crate) fn note_refused(alloc: Global, wrong: &mut Wrong) {
+    for (row, (refused, wanted)) in CALLS.iter().enumerate() {
+        let mut layer = Refusing::new(ListLayer::new(alloc), *refused);
+        wrong.note("refused", row, drawn(&mut layer, CHAIRS_LIST) == *wanted);
     }
 }

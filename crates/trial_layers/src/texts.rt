@@ -1,7 +1,12 @@
 //! The three texts.
 ghost use Rattle.layer_api.specs.Drawable.{IsDrawable, IsView};
 
+use crate::boxed::note_boxes;
+use crate::kept::are_kept;
+use crate::lines::note_lines;
+use crate::refusing::note_refused;
 use crate::tiles::{drawn, joined, part, view, whole};
+use crate::wrong::{NONE, Wrong};
 use cyclo_points::order::Order;
 use layer_api::drawn::Drawn;
 use layer_api::layer::Layer;
@@ -10,7 +15,6 @@ use layer_list::census_layer::CensusLayer;
 use layer_list::list_layer::ListLayer;
 use layer_svg::svg_layer::SvgLayer;
 use std::alloc::Global;
-use std::test::Fail;
 use tile_shape::no_memory::NoMemory;
 
 /// The picture of two chairs.
@@ -29,18 +33,9 @@ pub(crate) const CHAIRS_LIST: &str = "0 0 0,0,0,0 0:3/0\n0 1 3,1,0,0 0:1/0\n";
 /// Their census.
 pub(crate) const CHAIRS_CENSUS: &str = "0 2\nall 2\n";
 
-/// Two chairs, drawn twice by each layer.
-#[test]
-fn chairs(rt: HostRuntime) {
-    let alloc = rt.alloc();
-    let mut svg = SvgLayer::new(alloc);
-    let mut list = ListLayer::new(alloc);
-    let mut census = CensusLayer::new(alloc);
-    for _ in 0..2u8 {
-        assert!(rt; drawn(&mut svg, CHAIRS_SVG) == Some(true));
-        assert!(rt; drawn(&mut list, CHAIRS_LIST) == Some(true));
-        assert!(rt; drawn(&mut census, CHAIRS_CENSUS) == Some(true));
-    }
+/// Returns true if two chairs are drawn twice by a layer as this text.
+fn draws_chairs<L: Layer>(layer: &mut L, wanted: &str) -> bool {
+    drawn(layer, wanted) == Some(true) && drawn(layer, wanted) == Some(true)
 }
 
 /// Returns true if a layer draws one tile as this text.
@@ -82,6 +77,8 @@ fn is_empty<L: Layer>(layer: &mut L, view: View, wanted: &str) -> Result<bool, N
 /// The vertices of a kite of order ten.
 const KITE: [[i8; 4]; 4] = [[0, 0, 0, 0], [1, 0, 1, -1], [1, 0, 1, 0], [0, 1, 0, 1]];
 
+const KITE_LIST: &str = "0 0 0,0,0,0 0:2/0 + 1 1 0,0,0,0 1:1/0\n";
+
 const KITE_SVG: &str =
     "<svg xmlns=\"http://www.w3.org/2000/svg\" version=\"1.1\" viewBox=\"-2048.0 -1.763355 4096 3.526710\">
 <g transform=\"scale(0.0005 -0.000587785)\" fill=\"none\" stroke=\"black\" stroke-width=\"40\">
@@ -91,27 +88,16 @@ const KITE_SVG: &str =
 ";
 
 /// A kite of two halves: coordinates of either sign, rounded down.
-#[test]
-fn kite(rt: HostRuntime) -> Result<(), Fail> {
-    let alloc = rt.alloc();
+fn is_kite(alloc: Global) -> Result<bool, NoMemory> {
     let kite = joined(
         Order::Ten,
         &KITE,
         part(0, 0, [0; 4], &[(2, 0)]),
         part(1, 1, [0; 4], &[(1, 0)]),
     );
-    let seen = view(Order::Ten, &[0; 4], (1, 1), 4);
-    assert!(rt;
-        is_list(
-            alloc,
-            seen,
-            kite.copy(),
-            "0 0 0,0,0,0 0:2/0 + 1 1 0,0,0,0 1:1/0\n"
-        )?
-    );
-    let seen = view(Order::Ten, &[1, 0, 1, 0], (4096, 3), 4);
-    assert!(rt; is_svg(alloc, seen, kite, KITE_SVG)?);
-    Ok(())
+    let near = view(Order::Ten, &[0; 4], (1, 1), 4);
+    let far = view(Order::Ten, &[1, 0, 1, 0], (4096, 3), 4);
+    Ok(is_list(alloc, near, kite.copy(), KITE_LIST)? && is_svg(alloc, far, kite, KITE_SVG)?)
 }
 
 /// The vertices of a triangle of order eight.
@@ -129,9 +115,7 @@ const TRIANGLE_SVG: &str =
 ";
 
 /// A triangle of order eight, and an address of numbers with three figures.
-#[test]
-fn triangle(rt: HostRuntime) -> Result<(), Fail> {
-    let alloc = rt.alloc();
+fn is_triangle(alloc: Global) -> Result<bool, NoMemory> {
     let far = part(
         1,
         255,
@@ -140,9 +124,10 @@ fn triangle(rt: HostRuntime) -> Result<(), Fail> {
     );
     let triangle = whole(Order::Eight, &TRIANGLE, far);
     let seen = view(Order::Eight, &[3, -2, 5, 7], (7, 4096), 3);
-    assert!(rt; is_list(alloc, seen, triangle.copy(), TRIANGLE_LIST)?);
-    assert!(rt; is_svg(alloc, seen, triangle, TRIANGLE_SVG)?);
-    Ok(())
+    Ok(
+        is_list(alloc, seen, triangle.copy(), TRIANGLE_LIST)?
+            && is_svg(alloc, seen, triangle, TRIANGLE_SVG)?,
+    )
 }
 
 /// The vertices of a half hexagon.
@@ -154,6 +139,9 @@ const HALF_HEX: [[i8; 4]; 5] = [
     [0, 0, 0, 0],
 ];
 
+const HALF_HEX_LIST: &str =
+    "0 0 0,0,0,0 0:1/0,1/0,1/0,1/0,1/0,1/0,1/0,1/0,1/0,1/0,1/0,1/0,1/0,1/0,1/0,1/0,1/0,1/0,1/0,1/0,1/0,1/0,1/0,1/0,1/0,1/0,1/0,1/0,1/0,1/0,1/0,1/0,1/0,1/0,1/0,1/0,1/0,1/0,1/0,1/0,1/0,1/0,1/0,1/0,1/0,1/0,1/0,1/0,1/0,1/0,1/0,1/0,1/0,1/0,1/0,1/0,1/0,1/0,1/0,1/0,1/0,1/0,1/0,1/0\n";
+
 const HALF_HEX_SVG: &str =
     "<svg xmlns=\"http://www.w3.org/2000/svg\" version=\"1.1\" viewBox=\"-0.5 -0.866025 1 1.732050\">
 <g transform=\"scale(0.0005 -0.000866025)\" fill=\"none\" stroke=\"black\" stroke-width=\"40\">
@@ -163,21 +151,13 @@ const HALF_HEX_SVG: &str =
 ";
 
 /// A half hexagon of order six, and an address of 64 digits.
-#[test]
-fn half_hexagon(rt: HostRuntime) -> Result<(), Fail> {
-    let alloc = rt.alloc();
+fn is_half_hexagon(alloc: Global) -> Result<bool, NoMemory> {
     let half = whole(Order::Six, &HALF_HEX, part(0, 0, [0; 4], &[(1, 0); 64]));
     let seen = view(Order::Six, &[1, 1, 0, 0], (1, 1), 1);
-    assert!(rt; is_svg(alloc, seen, half.copy(), HALF_HEX_SVG)?);
-    assert!(rt;
-        is_list(
-            alloc,
-            seen,
-            half,
-            "0 0 0,0,0,0 0:1/0,1/0,1/0,1/0,1/0,1/0,1/0,1/0,1/0,1/0,1/0,1/0,1/0,1/0,1/0,1/0,1/0,1/0,1/0,1/0,1/0,1/0,1/0,1/0,1/0,1/0,1/0,1/0,1/0,1/0,1/0,1/0,1/0,1/0,1/0,1/0,1/0,1/0,1/0,1/0,1/0,1/0,1/0,1/0,1/0,1/0,1/0,1/0,1/0,1/0,1/0,1/0,1/0,1/0,1/0,1/0,1/0,1/0,1/0,1/0,1/0,1/0,1/0,1/0\n"
-        )?
-    );
-    Ok(())
+    Ok(
+        is_svg(alloc, seen, half.copy(), HALF_HEX_SVG)?
+            && is_list(alloc, seen, half, HALF_HEX_LIST)?,
+    )
 }
 
 const NO_TILE_SVG: &str =
@@ -188,14 +168,13 @@ const NO_TILE_SVG: &str =
 ";
 
 /// Views without a tile: a head and a tail, no line, and a census of nothing.
-#[test]
-fn no_tile(rt: HostRuntime) -> Result<(), Fail> {
-    let alloc = rt.alloc();
+fn are_empty(alloc: Global) -> Result<bool, NoMemory> {
     let seen = view(Order::Four, &[0; 4], (65535, 1), 2);
-    assert!(rt; is_empty(&mut SvgLayer::new(alloc), seen, NO_TILE_SVG)?);
-    assert!(rt; is_empty(&mut ListLayer::new(alloc), seen, "")?);
-    assert!(rt; is_empty(&mut CensusLayer::new(alloc), seen, "0 0\n1 0\nall 0\n")?);
-    Ok(())
+    Ok(
+        is_empty(&mut SvgLayer::new(alloc), seen, NO_TILE_SVG)?
+            && is_empty(&mut ListLayer::new(alloc), seen, "")?
+            && is_empty(&mut CensusLayer::new(alloc), seen, "0 0\n1 0\nall 0\n")?,
+    )
 }
 
 /// Returns true if the census of three tiles, two of kind 1 and one of a class that is no kind, is this.
@@ -210,9 +189,37 @@ fn is_census(alloc: Global, wanted: &str) -> Result<bool, NoMemory> {
     Ok(census.bytes() == wanted.as_bytes())
 }
 
-/// A class that is no kind is counted among all alone.
+/// Notes the first text that is another.
+fn note_texts(alloc: Global, wrong: &mut Wrong) {
+    wrong.note(
+        "svg of chairs",
+        0,
+        draws_chairs(&mut SvgLayer::new(alloc), CHAIRS_SVG),
+    );
+    wrong.note(
+        "list of chairs",
+        0,
+        draws_chairs(&mut ListLayer::new(alloc), CHAIRS_LIST),
+    );
+    let is_census_drawn = draws_chairs(&mut CensusLayer::new(alloc), CHAIRS_CENSUS);
+    wrong.note("census of chairs", 0, is_census_drawn);
+    wrong.note("kite", 0, is_kite(alloc).unwrap_or(false));
+    wrong.note("triangle", 0, is_triangle(alloc).unwrap_or(false));
+    wrong.note("half hexagon", 0, is_half_hexagon(alloc).unwrap_or(false));
+    wrong.note("no tile", 0, are_empty(alloc).unwrap_or(false));
+    // a class that is no kind is counted among all alone
+    let counts = is_census(alloc, "0 0\n1 2\nall 3\n");
+    wrong.note("class that is no kind", 0, counts.unwrap_or(false));
+}
+
 #[test]
-fn class_that_is_no_kind(rt: HostRuntime) -> Result<(), Fail> {
-    assert!(rt; is_census(rt.alloc(), "0 0\n1 2\nall 3\n")?);
-    Ok(())
+fn texts(rt: HostRuntime) {
+    let alloc = rt.alloc();
+    let mut wrong = NONE;
+    note_texts(alloc, &mut wrong);
+    note_lines(alloc, &mut wrong);
+    note_boxes(alloc, &mut wrong);
+    note_refused(alloc, &mut wrong);
+    wrong.note("kept texts", 0, are_kept(alloc).unwrap_or(false));
+    assert_eq!(rt; wrong.name, "", "row {}", wrong.row);
 }

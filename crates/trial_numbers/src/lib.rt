@@ -17,3 +17,5 @@ mod points;
 mod sizes;
 #[cfg(test)]
 mod streams;
+#[cfg(test)]
+mod wrong;

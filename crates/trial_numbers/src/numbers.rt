@@ -1,6 +1,7 @@
 //! Numbers of the rings of coordinates: signs, sums, products and roundings. The numbers are convergents
 //! of φ (Fibonacci's) and of √2 (Pell's), which lie next to them on both sides, and the decimals of both.
 use crate::sizes::{real_within, within};
+use crate::wrong::Wrong;
 use cyclo_points::coordinates::{x, y};
 use cyclo_points::order::Order;
 use cyclo_points::point::Point;
@@ -298,30 +299,13 @@ const SIGNS: [(Order, Pair, Ordering); 24] = [
     (Order::Six, (SIGNED, 0), Ordering::Greater),
 ];
 
-/// The number of the first call that gives something else.
-fn first_other(rows: &[(Call, Pair)]) -> Option<usize> {
-    for (row, (call, wanted)) in rows.iter().enumerate() {
-        if given(call) != Some(real(wanted)) {
-            return Some(row);
-        }
+/// Notes the calls that give something else, and the signs that are others.
+pub fn note_numbers(wrong: &mut Wrong) {
+    for (row, (call, wanted)) in ROWS.iter().enumerate() {
+        wrong.note("numbers", row, given(call) == Some(real(wanted)));
     }
-    None
-}
-
-/// The number of the first sign that is another.
-fn first_other_sign(rows: &[(Order, Pair, Ordering)]) -> Option<usize> {
-    for (row, (order, pair, wanted)) in rows.iter().enumerate() {
-        if sign_of(*order, &real(pair)) != Some(*wanted) {
-            return Some(row);
-        }
+    for (row, (order, pair, wanted)) in SIGNS.iter().enumerate() {
+        let sign = sign_of(*order, &real(pair));
+        wrong.note("signs", row, sign == Some(*wanted));
     }
-    None
-}
-
-#[test]
-fn numbers(rt: HostRuntime) {
-    assert_eq!(rt;
-        [first_other(&ROWS), first_other_sign(&SIGNS)],
-        [None, None]
-    );
 }

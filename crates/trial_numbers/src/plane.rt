@@ -2,7 +2,10 @@
 ghost use Rattle.std.specs.Prelude.{◌^◌, ◌≤◌, All, IsTrue, length};
 ghost use Rattle.cyclo_points.specs.Point.{IsWithin};
 
+use crate::numbers::note_numbers;
+use crate::points::note_points;
 use crate::sizes::{all_within, within};
+use crate::wrong::{NONE, Wrong};
 use cyclo_points::order::Order;
 use cyclo_points::point::Point;
 use plane_geom::box_edges::edge_meets_box;
@@ -402,32 +405,25 @@ static IN_ONE_ORDER: [(Order, Call, i32); 34] = [
     ),
 ];
 
-/// The number of the first question that has another answer in an order.
-fn first_other(order: Order, rows: &[(Call, i32)]) -> Option<usize> {
-    for (row, (call, wanted)) in rows.iter().enumerate() {
-        if answer(order, call) != Some(*wanted) {
-            return Some(row);
+/// Notes the first question that has another answer.
+fn note_answers(wrong: &mut Wrong) {
+    for order in &[Order::Four, Order::Six, Order::Eight, Order::Ten] {
+        for (row, (call, wanted)) in IN_EACH_ORDER.iter().enumerate() {
+            wrong.note("in each order", row, answer(*order, call) == Some(*wanted));
         }
     }
-    None
-}
-
-/// The number of the first question of one order that has another answer.
-fn first_other_of_one(rows: &[(Order, Call, i32)]) -> Option<usize> {
-    for (row, (order, call, wanted)) in rows.iter().enumerate() {
-        if answer(*order, call) != Some(*wanted) {
-            return Some(row);
-        }
+    for (row, (order, call, wanted)) in IN_ONE_ORDER.iter().enumerate() {
+        wrong.note("in one order", row, answer(*order, call) == Some(*wanted));
     }
-    None
 }
 
 #[test]
-fn plane(rt: HostRuntime) {
-    for order in &[Order::Four, Order::Six, Order::Eight, Order::Ten] {
-        assert_eq!(rt; first_other(*order, &IN_EACH_ORDER), None);
-    }
-    assert_eq!(rt; first_other_of_one(&IN_ONE_ORDER), None);
+fn numbers_points_and_plane(rt: HostRuntime) {
+    let mut wrong = NONE;
+    note_numbers(&mut wrong);
+    note_points(&mut wrong);
+    note_answers(&mut wrong);
+    assert_eq!(rt; wrong.name, "", "row {}", wrong.row);
 }
 
 #[test]

@@ -4,6 +4,7 @@ ghost use Rattle.cyclo_points.specs.Order.{points_of};
 ghost use Rattle.cyclo_points.specs.Point.{IsWithin};
 
 use crate::sizes::within;
+use crate::wrong::Wrong;
 use cyclo_points::arithmetic::{add, refused, sub};
 use cyclo_points::coordinates::{conj, reduce};
 use cyclo_points::motion::Motion;
@@ -354,16 +355,6 @@ const ORDERS: [(Order, u8); 4] = [
     (Order::Ten, 10),
 ];
 
-/// The number of the first call that gives something else.
-fn first_other(rows: &[(Call, Moved)]) -> Option<usize> {
-    for (row, (call, wanted)) in rows.iter().enumerate() {
-        if given(call) != Some(motion(wanted)) {
-            return Some(row);
-        }
-    }
-    None
-}
-
 /// Returns true if each turn and one more is the next, and the conjugate of each power of ζ the power back.
 fn goes_round(order: Order, n: u8) -> bool {
     let one = Point { c: ONE };
@@ -379,35 +370,35 @@ fn goes_round(order: Order, n: u8) -> bool {
     order.n() == n
 }
 
-/// The number of the first coefficient at whose bound a point is refused, or past which it isn't.
-fn first_beyond() -> Option<usize> {
-    let limit = 1 << 24;
-    for i in 0..4 {
-        let mut p = Point {
-            c: [limit, -limit, limit, -limit],
-        };
-        let within = !refused(&p);
-        p.c[i] = limit + 1;
-        let above = refused(&p);
-        p.c[i] = -limit - 1;
-        if !(within && above && refused(&p)) {
-            return Some(i);
-        }
-    }
-    None
-}
+/// The greatest coefficient that is not refused.
+const LIMIT: i64 = 1 << 24;
 
-#[test]
-fn points_and_motions(rt: HostRuntime) {
+/// Points, and whether they are refused: each coefficient within the limit, and one above or below.
+const REFUSED: [(Quad, bool); 9] = [
+    ([LIMIT, -LIMIT, LIMIT, -LIMIT], false),
+    ([LIMIT + 1, -LIMIT, LIMIT, -LIMIT], true),
+    ([-LIMIT - 1, -LIMIT, LIMIT, -LIMIT], true),
+    ([LIMIT, LIMIT + 1, LIMIT, -LIMIT], true),
+    ([LIMIT, -LIMIT - 1, LIMIT, -LIMIT], true),
+    ([LIMIT, -LIMIT, LIMIT + 1, -LIMIT], true),
+    ([LIMIT, -LIMIT, -LIMIT - 1, -LIMIT], true),
+    ([LIMIT, -LIMIT, LIMIT, LIMIT + 1], true),
+    ([LIMIT, -LIMIT, LIMIT, -LIMIT - 1], true),
+];
+
+/// Notes the calls that give something else, the points that are wrongly refused or not, and the orders
+/// whose turns don't go round.
+pub fn note_points(wrong: &mut Wrong) {
     points_law(Order::Ten);
     placement_law(Order::Eight);
     divisors_law(Order::Six);
-    assert_eq!(rt; [first_other(&ROWS), first_beyond()], [None, None]);
-}
-
-#[test]
-fn turns_go_round(rt: HostRuntime) {
-    for (order, n) in &ORDERS {
-        assert!(rt; goes_round(*order, *n));
+    for (row, (call, wanted)) in ROWS.iter().enumerate() {
+        wrong.note("points", row, given(call) == Some(motion(wanted)));
+    }
+    for (row, (c, wanted)) in REFUSED.iter().enumerate() {
+        wrong.note("refused points", row, refused(&Point { c: *c }) == *wanted);
+    }
+    for (row, (order, n)) in ORDERS.iter().enumerate() {
+        wrong.note("orders", row, goes_round(*order, *n));
     }
 }

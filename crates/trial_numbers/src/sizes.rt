@@ -8,14 +8,21 @@ ghost use Rattle.trial_numbers.specs.Sizes.{is_at_most, is_within};
 use cyclo_points::point::Point;
 use cyclo_points::real::Real;
 
+/// Returns true if a coefficient is at most so much in absolute value.
+fn is_small(most: u64, x: i64) -> bool
+    ensures { result ≡ is_at_most most x }
+{
+    x.unsigned_abs() <= most
+}
+
 /// Returns true if each coefficient is at most so much in absolute value.
 fn passes(most: u64, p: &Point) -> bool
     ensures { result ≡ is_within most p.now }
 {
-    p.c[0].unsigned_abs() <= most
-        && p.c[1].unsigned_abs() <= most
-        && p.c[2].unsigned_abs() <= most
-        && p.c[3].unsigned_abs() <= most
+    is_small(most, p.c[0])
+        && is_small(most, p.c[1])
+        && is_small(most, p.c[2])
+        && is_small(most, p.c[3])
 }
 
 /// Returns true if a point is within a bound.

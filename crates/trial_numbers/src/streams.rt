@@ -2,9 +2,9 @@
 ghost use Rattle.std.specs.Prelude.{◌≡◌, ◌<◌, ◌≤◌, [], length, Some, IsOk, IfOk, IfSome, IsErrOf, OnOk, ◌++◌};
 ghost use Rattle.tile_io.specs.declared.read_all_fault.ReadAllFault.TheVariants.{TooLong, Fault};
 
+use crate::wrong::{NONE, Wrong};
 use std::alloc::Global;
 use std::io::Cursor;
-use std::test::Fail;
 use tile_io::failed::Failed;
 use tile_io::mem_sink::MemSink;
 use tile_io::mem_source::MemSource;
@@ -17,6 +17,7 @@ use tile_io::std_source::StdSource;
 use tile_io::steady_sink::SteadySink;
 use tile_io::steady_source::SteadySource;
 use tile_io::writing::write_all;
+use tile_shape::no_memory::NoMemory;
 
 /// A sink's room, how many bytes it takes a call, which call fails, and what it has taken of `tiles`.
 static WRITTEN: [(usize, usize, u64, &str); 17] = [
@@ -40,7 +41,7 @@ static WRITTEN: [(usize, usize, u64, &str); 17] = [
 ];
 
 /// Returns true if a sink takes what its row says.
-fn is_taken(alloc: Global, row: &(usize, usize, u64, &str)) -> Result<bool, Fail> {
+fn is_taken(alloc: Global, row: &(usize, usize, u64, &str)) -> Result<bool, NoMemory> {
     let (room, a_call, failing, wanted) = row;
     if *a_call == 0 {
         return Ok(false);
@@ -49,14 +50,6 @@ fn is_taken(alloc: Global, row: &(usize, usize, u64, &str)) -> Result<bool, Fail
     let mut sink = MemSink::new(alloc, *room, *a_call, fails)?;
     let result = write_all(&mut sink, b"tiles");
     Ok(result.is_ok() == (wanted.len() == 5) && sink.taken() == wanted.as_bytes())
-}
-
-#[test]
-fn written_until_a_call_fails(rt: HostRuntime) -> Result<(), Fail> {
-    for row in &WRITTEN {
-        assert!(rt; is_taken(rt.alloc(), row)?);
-    }
-    Ok(())
 }
 
 /// Pieces that are written to a sink with room for five bytes, two a call, and what comes of each.
@@ -84,47 +77,28 @@ static ROOMS: [(usize, Option<&str>); 8] = [
     (4, Some("")),
 ];
 
-/// The number of the first piece that is written otherwise.
-fn first_written_otherwise(sink: &mut MemSink) -> Option<usize> {
+/// Notes the first piece that is written otherwise.
+fn note_pieces(wrong: &mut Wrong, sink: &mut MemSink) {
     for (row, (piece, wanted)) in PIECES.iter().enumerate() {
-        if sink.write(piece.as_bytes()) != *wanted {
-            return Some(row);
-        }
+        wrong.note("pieces", row, sink.write(piece.as_bytes()) == *wanted);
     }
-    None
+    wrong.note("all pieces", 0, sink.taken() == b"tiles".as_slice());
 }
 
-/// The number of the first call that gives something else.
-fn first_given_otherwise(source: &mut MemSource) -> Option<usize> {
+/// Returns true if a source gives this in a room of at most four bytes. It fails if nothing is wanted.
+fn is_given(source: &mut MemSource, room: usize, wanted: &Option<&str>) -> bool {
     let mut buf = [0; 4];
-    for (row, (room, wanted)) in ROOMS.iter().enumerate() {
-        let room = (*room).min(4);
-        let given = match source.read(&mut buf[..room]) {
-            Ok(count) => Some(&buf[..count]),
-            Err(Failed) => None,
-        };
-        if given != wanted.map(str::as_bytes) {
-            return Some(row);
-        }
+    match source.read(&mut buf[..room.min(4)]) {
+        Ok(count) => Some(&buf[..count]) == wanted.map(str::as_bytes),
+        Err(Failed) => wanted.is_none(),
     }
-    None
 }
 
-#[test]
-fn sink_fails_at_the_listed_calls(rt: HostRuntime) -> Result<(), Fail> {
-    let fails = [2, 9].to_vec(rt.alloc())?;
-    let mut sink = MemSink::new(rt.alloc(), 5, 2, fails)?;
-    assert_eq!(rt; first_written_otherwise(&mut sink), None);
-    assert!(rt; sink.taken() == b"tiles".as_slice());
-    Ok(())
-}
-
-#[test]
-fn source_fails_at_the_listed_calls(rt: HostRuntime) -> Result<(), Fail> {
-    let fails = [6, 1, 3, 0, 3].to_vec(rt.alloc())?;
-    let mut source = MemSource::new(b"tiles".to_vec(rt.alloc())?, 2, fails);
-    assert_eq!(rt; first_given_otherwise(&mut source), None);
-    Ok(())
+/// Notes the first call that gives something else.
+fn note_rooms(wrong: &mut Wrong, source: &mut MemSource) {
+    for (row, (room, wanted)) in ROOMS.iter().enumerate() {
+        wrong.note("rooms", row, is_given(source, *room, wanted));
+    }
 }
 
 // What a caller knows of two pieces written in turn to a sink in memory.
@@ -142,12 +116,10 @@ fn takes(sink: &mut SteadySink, first: &str, second: &str, wanted: &str) -> bool
     in_turn(sink, first.as_bytes(), second.as_bytes()).is_ok() && sink.taken() == wanted.as_bytes()
 }
 
-#[test]
-fn sinks_in_memory(rt: HostRuntime) -> Result<(), Fail> {
-    let mut steady = SteadySink::new(rt.alloc(), 5)?;
-    assert!(rt; takes(&mut steady, "ti", "le", "tile"));
-    assert!(rt; takes(&mut steady, "up", "s", "tiles"));
-    Ok(())
+/// Returns true if it has taken as many bytes as it has room for, of more pieces.
+fn is_filled(alloc: Global) -> Result<bool, NoMemory> {
+    let mut steady = SteadySink::new(alloc, 5)?;
+    Ok(takes(&mut steady, "ti", "le", "tile") && takes(&mut steady, "up", "s", "tiles"))
 }
 
 /// What comes of four pieces that are written to a sink over four bytes.
@@ -160,19 +132,10 @@ fn over_four_bytes() -> [Result<usize, Failed>; 4] {
 }
 
 /// Returns true if a vector has what is written to a sink over it.
-fn is_over_a_vector(alloc: Global) -> Result<bool, Failed> {
+fn is_over_a_vector(alloc: Global) -> bool {
     let mut out = Vec::new(alloc);
-    let mut sink = StdSink::new(&mut out);
-    write_all(&mut sink, b"tiles")?;
-    drop(sink);
-    Ok(out.as_slice() == b"tiles".as_slice())
-}
-
-#[test]
-fn sinks_of_std(rt: HostRuntime) -> Result<(), Fail> {
-    assert!(rt; over_four_bytes() == [Ok(0), Ok(4), Ok(0), Err(Failed)]);
-    assert!(rt; is_over_a_vector(rt.alloc())?);
-    Ok(())
+    let written = write_all(&mut StdSink::new(&mut out), b"tiles");
+    written.is_ok() && out.as_slice() == b"tiles".as_slice()
 }
 
 /// Returns true if a source gives this piece at a call that asks for two bytes.
@@ -187,15 +150,13 @@ fn gives<S: Source>(source: &mut S, wanted: &str) -> bool {
 /// What sources of `tiles` give, two bytes a call.
 static GIVEN: [&str; 4] = ["ti", "le", "s", ""];
 
-#[test]
-fn sources_in_pieces(rt: HostRuntime) -> Result<(), Fail> {
-    let mut steady = SteadySource::new(b"tiles".to_vec(rt.alloc())?);
+/// Notes the first piece that other sources give otherwise.
+fn note_sources(wrong: &mut Wrong, steady: &mut SteadySource) {
     let mut over_std = StdSource::new(b"tiles".as_slice());
-    for wanted in &GIVEN {
-        assert!(rt; gives(&mut steady, wanted));
-        assert!(rt; gives(&mut over_std, wanted));
+    for (row, wanted) in GIVEN.iter().enumerate() {
+        wrong.note("steady source", row, gives(steady, wanted));
+        wrong.note("source of std", row, gives(&mut over_std, wanted));
     }
-    Ok(())
 }
 
 /// The number of bytes that are asked for, the call that fails, and the fault of reading `tiles`, two bytes a
@@ -233,7 +194,7 @@ fn leaves(alloc: Global, source: &mut MemSource, rest: &str) -> Result<bool, Rea
 }
 
 /// Returns true if the reading of a row ends as it says.
-fn is_read(alloc: Global, row: &Reading) -> Result<bool, Fail> {
+fn is_read(alloc: Global, row: &Reading) -> Result<bool, ReadAllFault> {
     let (most, failing, fault, rest) = row;
     let fails = [*failing].to_vec(alloc)?;
     let mut source = MemSource::new(b"tiles".to_vec(alloc)?, 2, fails);
@@ -242,14 +203,6 @@ fn is_read(alloc: Global, row: &Reading) -> Result<bool, Fail> {
         return Ok(is_tiles(&read));
     }
     Ok(read.err() == *fault && leaves(alloc, &mut source, rest)?)
-}
-
-#[test]
-fn read_to_the_end(rt: HostRuntime) -> Result<(), Fail> {
-    for row in &READ {
-        assert!(rt; is_read(rt.alloc(), row)?);
-    }
-    Ok(())
 }
 
 // States what a caller knows of reading a source that reports its bytes and never fails.
@@ -268,7 +221,7 @@ fn read_whole(
 }
 
 /// Returns how many of these bytes are read, and the fault if one fewer is asked for.
-fn read_long(alloc: Global, length: usize) -> Result<(usize, Option<ReadAllFault>), Fail> {
+fn read_long(alloc: Global, length: usize) -> Result<(usize, Option<ReadAllFault>), ReadAllFault> {
     let mut source = SteadySource::new(vec![in alloc; 7u8; length]?);
     let read = read_whole(alloc, &mut source, length)?;
     let count = read.len();
@@ -280,7 +233,7 @@ fn read_long(alloc: Global, length: usize) -> Result<(usize, Option<ReadAllFault
 }
 
 /// Returns true if all these bytes are read, and are too long if one fewer is asked for.
-fn is_read_long(alloc: Global, length: usize) -> Result<bool, Fail> {
+fn is_read_long(alloc: Global, length: usize) -> Result<bool, ReadAllFault> {
     let fault = if length == 0 {
         None
     } else {
@@ -292,12 +245,51 @@ fn is_read_long(alloc: Global, length: usize) -> Result<bool, Fail> {
 /// Lengths about that of a piece.
 static LENGTHS: [usize; 7] = [0, 1, 4095, 4096, 4097, 8192, 10000];
 
-#[test]
-fn read_longer_than_a_piece(rt: HostRuntime) -> Result<(), Fail> {
-    let mut over_std = StdSource::new(b"tiles".as_slice());
-    assert!(rt; is_tiles(&read_all(rt.alloc(), &mut over_std, 5)));
-    for length in &LENGTHS {
-        assert!(rt; is_read_long(rt.alloc(), *length)?);
+/// Returns true if a source of std is read to its end.
+fn is_read_over_std(alloc: Global) -> bool {
+    is_tiles(&read_all(alloc, &mut StdSource::new(b"tiles".as_slice()), 5))
+}
+
+/// Notes the first row that is written or read otherwise.
+fn note_rows(alloc: Global, wrong: &mut Wrong) {
+    for (row, written) in WRITTEN.iter().enumerate() {
+        wrong.note("written", row, is_taken(alloc, written).unwrap_or(false));
     }
+    for (row, reading) in READ.iter().enumerate() {
+        wrong.note("read", row, is_read(alloc, reading).unwrap_or(false));
+    }
+    for (row, length) in LENGTHS.iter().enumerate() {
+        let is_right = is_read_long(alloc, *length);
+        wrong.note("lengths", row, is_right.unwrap_or(false));
+    }
+    wrong.note("is_filled", 0, is_filled(alloc).unwrap_or(false));
+    wrong.note("is_over_a_vector", 0, is_over_a_vector(alloc));
+    wrong.note("is_read_over_std", 0, is_read_over_std(alloc));
+    let over_four = over_four_bytes() == [Ok(0), Ok(4), Ok(0), Err(Failed)];
+    wrong.note("over_four_bytes", 0, over_four);
+}
+
+/// Notes the first piece that streams in memory write or give otherwise. The sink fails at calls 2 and 9, and
+/// the source at calls 1, 3 and 6.
+fn note_streams(alloc: Global, wrong: &mut Wrong) -> Result<(), NoMemory> {
+    let fails = [6, 1, 3, 0, 3].to_vec(alloc)?;
+    note_rooms(
+        wrong,
+        &mut MemSource::new(b"tiles".to_vec(alloc)?, 2, fails),
+    );
+    note_sources(wrong, &mut SteadySource::new(b"tiles".to_vec(alloc)?));
+    note_pieces(
+        wrong,
+        &mut MemSink::new(alloc, 5, 2, [2, 9].to_vec(alloc)?)?,
+    );
     Ok(())
+}
+
+#[test]
+fn streams(rt: HostRuntime) {
+    let mut wrong = NONE;
+    note_rows(rt.alloc(), &mut wrong);
+    let is_made = note_streams(rt.alloc(), &mut wrong).is_ok();
+    wrong.note("streams", 0, is_made);
+    assert_eq!(rt; wrong.name, "", "row {}", wrong.row);
 }
