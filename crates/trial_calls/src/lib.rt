@@ -1,5 +1,6 @@
 //! Trials of the top call, `run`: what the program prints and notes, compared with values from outside.
-//! Streams work, or fail at a given call. The words of a call are also read alone. There is no other code here.
+//! Streams work, or fail at a given call. The words of a call are also read alone. There is no other code
+//! here.
 #![tactic(auto)]
 
 #[cfg(test)]

@@ -38,8 +38,8 @@ pub fn layers_of(alloc: Global, formats: &[Format]) -> Result<Layers, NoMemory> 
     Ok(layers)
 }
 
-/// Runs a line of words with these layers. Returns the exit code, what is printed into so much room, and after
-/// a bar what is noted.
+/// Runs a line of words with these layers. Returns the exit code, what is printed into so much room, and
+/// after a bar what is noted.
 pub fn told(alloc: Global, line: &str, layers: Layers, room: usize) -> Result<String, NoMemory> {
     let words = words_of(alloc, line)?;
     let mut source = SteadySource::new(Vec::new(alloc));

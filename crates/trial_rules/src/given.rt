@@ -11,8 +11,7 @@ use rule_model::rule::Rule;
 use rule_model::type_row::TypeRow;
 use std::alloc::{AllocError, Global};
 
-/// A rule's text, a piece of it, and what stands in the place of that piece; the rule as it is, if there is no
-/// piece.
+/// A rule's text, a piece of it, and what replaces that piece; the rule as it is, if there is no piece.
 pub type Given = (&'static str, &'static str, &'static str);
 
 /// The number of a word.

@@ -1,8 +1,8 @@
 //! Rules of the literature, as texts.
 //!
 //! A text has an order, a factor, the glue types, the edge types and the kinds, parted by semicolons. An edge
-//! type is its mate and its parts. A kind is its vertices, the types of its edges, and its children; a child is
-//! its kind, its turn and its shift.
+//! type is its mate and its parts. A kind is its vertices, the types of its edges, and its children. A child
+//! is its kind, its turn and its shift.
 
 /// The chair: an L of three squares, cut into four of itself.
 pub const CHAIR: &str = "4; 2,0,0,0; ; 0:0,0; \
