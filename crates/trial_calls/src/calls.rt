@@ -58,9 +58,9 @@ fn is_right(alloc: Global, row: &str) -> Result<bool, AllocError> {
     ))
 }
 
-/// Notes the first row that comes out otherwise. A row is a line: the words of a call, what its source
-/// holds, and the outcome. The outcome is the exit code, what is printed, and after a bar what is noted. A
-/// line that begins with `#` is a comment.
+/// Notes the first row that comes out otherwise. A row is a line: the words of a call, what its source holds,
+/// and the outcome. That is the exit code, what is printed, and after a bar what is noted. A line that
+/// begins with `#` is a comment.
 pub fn note_rows(alloc: Global, wrong: &mut Wrong, rows: &'static str) {
     for (number, row) in rows.split('\n').enumerate() {
         if !row.starts_with("#") {

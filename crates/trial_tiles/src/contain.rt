@@ -4,7 +4,8 @@ ghost use Rattle.std.specs.Prelude.{IfSome};
 ghost use Rattle.theory_walks.specs.Frames.{IsFrameOf};
 ghost use Rattle.rule_model.specs.Tiling.{tiling_of};
 
-use crate::given::{deep, tile_text};
+use crate::given::{deep, spelled, tile_text};
+use crate::wrong::Wrong;
 use builtin_rules::name::Name;
 use cyclo_points::order::Order;
 use cyclo_points::point::Point;
@@ -102,45 +103,40 @@ fn text_at(alloc: Global, tile: &PlacedTile, depth: u8) -> Result<String, AllocE
     format!(in alloc; "{tile} at {depth}")
 }
 
-/// Points of the chair's frames whose base has no digit, what is contained, and the depth after it.
-static ROWS: [([i64; 4], &str); 2] = [
-    ([1, 1, 0, 0], "0 1 3,1,0,0 0:1/0 at 1"),
-    ([0, 0, 0, 0], "0 0 0,0,0,0 0: at 0"),
+/// Children that lead down to a base, its depth, a point, and what the base's frame contains: a tile of the
+/// chair and the depth after it. The last point is next to the corner of every ancestor, and the second vertex
+/// of that of level 24 is refused.
+static ROWS: [(&[u8], usize, [i64; 4], &str); 4] = [
+    (&[], 0, [1, 1, 0, 0], "0 1 3,1,0,0 0:1/0 at 1"),
+    (&[], 0, [0, 0, 0, 0], "0 0 0,0,0,0 0: at 0"),
+    (&[3], 64, [1, 1, 0, 0], "0 1 3,1,0,0 0:1/0«,0/0×63» at 64"),
+    (
+        &[],
+        64,
+        [-1, 0, 0, 0],
+        "CoordLimit 16777216,33554432,0,0 at 64",
+    ),
 ];
 
-#[test]
-fn contains_points_of_the_chair(rt: HostRuntime) -> Result<(), Fail> {
-    let machine = machine_of(rt.alloc(), Name::Chair)?;
-    for (c, wanted) in ROWS.iter() {
-        let text = told(rt.alloc(), &machine, &Address::new(0), 0, &Point { c: *c })?;
-        assert_eq!(rt; text.as_str(), *wanted);
-    }
-    Ok(())
+/// Returns true if this is told of a point.
+fn is_told(
+    alloc: Global,
+    machine: &Machine,
+    base: &Address,
+    point: &Point,
+    wanted: &str,
+) -> Result<bool, AllocError> {
+    let wanted = spelled(alloc, wanted)?;
+    Ok(told(alloc, machine, base, 0, point)?.as_str() == wanted.as_str())
 }
 
-#[test]
-fn contains_at_depth_64(rt: HostRuntime) -> Result<(), Fail> {
-    let alloc = rt.alloc();
-    let machine = machine_of(alloc, Name::Chair)?;
-    let inside = told(
-        alloc,
-        &machine,
-        &deep(&[3], 64),
-        0,
-        &Point { c: [1, 1, 0, 0] },
-    )?;
-    let wanted = format!(in alloc; "0 1 3,1,0,0 {} at 64", deep(&[1], 64))?;
-    assert_eq!(rt; inside.as_str(), wanted.as_str());
-    // the point is next to the corner of every ancestor, and the second vertex of that of level 24 is refused
-    let beside = told(
-        alloc,
-        &machine,
-        &deep(&[], 64),
-        0,
-        &Point { c: [-1, 0, 0, 0] },
-    )?;
-    assert_eq!(rt; beside.as_str(), "CoordLimit 16777216,33554432,0,0 at 64");
-    Ok(())
+/// Notes the first point that is contained otherwise.
+pub(crate) fn note_contained(alloc: Global, wrong: &mut Wrong, chair: &Machine) {
+    for (row, (children, depth, c, wanted)) in ROWS.iter().enumerate() {
+        let base = deep(children, *depth);
+        let is_right = is_told(alloc, chair, &base, &Point { c: *c }, wanted);
+        wrong.note("contained points", row, is_right.unwrap_or(false));
+    }
 }
 
 /// The tiles of a base's frame at each depth.

@@ -1,14 +1,13 @@
 //! Windows that were worked out by hand.
-use crate::given::{deep, listed};
+use crate::given::{deep, listed, spelled};
+use crate::wrong::Wrong;
 use builtin_rules::name::Name;
 use cyclo_points::point::Point;
 use plane_geom::window::Window;
 use std::alloc::{AllocError, Global};
-use std::process::Abort;
-use std::test::Fail;
 use tile_place::machine::Machine;
 use tile_shape::address::Address;
-use tile_shape::step::Step;
+use tile_shape::no_memory::NoMemory;
 use trial_plain_tiles::built_in::machine_of;
 use trial_plain_tiles::window_tiles::covered;
 use window_cover::cover_fault::CoverFault;
@@ -52,88 +51,84 @@ fn told(
     }
 }
 
-/// Compares what comes of a window of a built-in rule.
-fn check<R: Abort + AllocGlobal>(
-    rt: &R,
-    name: Name,
-    base: &Address,
-    window: &Window,
-    wanted: &str,
-) -> Result<(), Fail> {
-    let alloc = rt.alloc();
-    let machine = machine_of(alloc, name)?;
-    let text = told(alloc, &machine, base, window)?;
-    assert_eq!(rt; text.as_str(), wanted);
-    Ok(())
-}
+/// A rule, children that lead down to a base and its depth, the centre, the half-width and the half-height of a
+/// window, and what comes of it.
+type Row = (Name, &'static [u8], usize, [i64; 4], u16, u16, &'static str);
 
-#[test]
-fn two_chairs(rt: HostRuntime) -> Result<(), Fail> {
-    let window = window([1, 1, 0, 0], 2, 1);
-    let near = "0 0 0,0,0,0 0:3/0\n0 1 3,1,0,0 0:1/0\ndepth 1";
-    check(&rt, Name::Chair, &Address::new(0), &window, near)?;
-    let first = deep(&[3], 64);
-    let second = deep(&[1], 64);
-    let far = format!(in rt.alloc(); "0 0 0,0,0,0 {first}\n0 1 3,1,0,0 {second}\ndepth 64")?;
-    check(&rt, Name::Chair, &first, &window, far.as_str())
-}
-
-#[test]
-fn three_half_hexagons(rt: HostRuntime) -> Result<(), Fail> {
-    let base = deep(&[0], 1);
-    let wanted = "0 0 0,0,0,0 0:0/0\n0 3 1,2,0,0 0:2/0\n0 2 3,0,0,0 0:1/0\ndepth 1";
-    check(
-        &rt,
+static ROWS: [Row; 6] = [
+    (
+        Name::Chair,
+        &[],
+        0,
+        [1, 1, 0, 0],
+        2,
+        1,
+        "0 0 0,0,0,0 0:3/0\n0 1 3,1,0,0 0:1/0\ndepth 1",
+    ),
+    (
+        Name::Chair,
+        &[3],
+        64,
+        [1, 1, 0, 0],
+        2,
+        1,
+        "0 0 0,0,0,0 0:3/0«,0/0×63»\n0 1 3,1,0,0 0:1/0«,0/0×63»\ndepth 64",
+    ),
+    (
         Name::HalfHex,
-        &base,
-        &window([1, 1, 0, 0], 1, 1),
-        wanted,
-    )
-}
-
-// The tile lies in the corner of every ancestor, and its edges 3 and 4 meet the window.
-#[test]
-fn too_deep(rt: HostRuntime) -> Result<(), Fail> {
-    let corner = deep(&[], 64);
-    let wanted = format!(in rt.alloc(); "DepthLimit {corner} 3")?;
-    check(
-        &rt,
+        &[0],
+        1,
+        [1, 1, 0, 0],
+        1,
+        1,
+        "0 0 0,0,0,0 0:0/0\n0 3 1,2,0,0 0:2/0\n0 2 3,0,0,0 0:1/0\ndepth 1",
+    ),
+    // the tile lies in the corner of every ancestor, and its edges 3 and 4 meet the window
+    (
         Name::Chair,
-        &corner,
-        &window([0; 4], 2, 1),
-        wanted.as_str(),
-    )
-}
-
-// The centre is next to that corner, and the second vertex of the ancestor of level 24 is refused.
-#[test]
-fn too_far(rt: HostRuntime) -> Result<(), Fail> {
-    let wanted = "CoordLimit 16777216,33554432,0,0";
-    check(
-        &rt,
+        &[],
+        64,
+        [0, 0, 0, 0],
+        2,
+        1,
+        "DepthLimit 0:0/0«,0/0×63» 3",
+    ),
+    // the centre is next to that corner, and the second vertex of the ancestor of level 24 is refused
+    (
         Name::Chair,
-        &deep(&[], 64),
-        &window([-1, 0, 0, 0], 1, 1),
-        wanted,
-    )
-}
-
-#[test]
-fn too_many(rt: HostRuntime) -> Result<(), Fail> {
-    let mut base = deep(&[], 20);
-    let _ = base.push_coarse(Step {
-        child: 1,
-        parent: 0,
-    });
-    let _ = base.push_coarse(Step {
-        child: 0,
-        parent: 0,
-    });
-    check(
-        &rt,
+        &[],
+        64,
+        [-1, 0, 0, 0],
+        1,
+        1,
+        "CoordLimit 16777216,33554432,0,0",
+    ),
+    (
         Name::Chair,
-        &base,
-        &window([0; 4], 4000, 4000),
+        &[
+            0, 0, 0, 0, 0, 0, 0, 0, 0, 0, 0, 0, 0, 0, 0, 0, 0, 0, 0, 0, 1,
+        ],
+        22,
+        [0, 0, 0, 0],
+        4000,
+        4000,
         "TooManyTiles",
-    )
+    ),
+];
+
+/// Returns true if a window comes out as its row says.
+fn is_right(alloc: Global, row: &Row) -> Result<bool, NoMemory> {
+    let (name, children, depth, centre, w, h, wanted) = row;
+    let machine = machine_of(alloc, *name)?;
+    let window = window(*centre, *w, *h);
+    let wanted = spelled(alloc, wanted)?;
+    let text = told(alloc, &machine, &deep(children, *depth), &window)?;
+    Ok(text.as_str() == wanted.as_str())
+}
+
+/// Notes the first window that comes out otherwise.
+pub(crate) fn note_covered(alloc: Global, wrong: &mut Wrong) {
+    for (number, row) in ROWS.iter().enumerate() {
+        wrong.note("windows", number, is_right(alloc, row).unwrap_or(false));
+    }
 }

@@ -28,3 +28,18 @@ pub(crate) fn deep(children: &[u8], depth: usize) -> Address {
     }
     addr
 }
+
+/// Returns a text with its pieces repeated: `«PIECE×TIMES»`.
+pub(crate) fn spelled(alloc: Global, text: &str) -> Result<String, AllocError> {
+    let mut all = String::new(alloc);
+    for part in text.split('«') {
+        let (repeated, rest) = part.split_once('»').unwrap_or(("", part));
+        let (piece, times) = repeated.split_once('×').unwrap_or(("", ""));
+        let times: u32 = times.parse().unwrap_or(0);
+        for _ in 0..times {
+            all.push_str(piece)?;
+        }
+        all.push_str(rest)?;
+    }
+    Ok(all)
+}

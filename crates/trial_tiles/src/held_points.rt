@@ -1,13 +1,11 @@
 //! Points of the chair's supertiles, worked out by hand.
 use crate::given::tile_text;
-use builtin_rules::name::Name;
+use crate::wrong::Wrong;
 use cyclo_points::motion::Motion;
 use cyclo_points::point::Point;
 use std::alloc::{AllocError, Global};
-use std::test::Fail;
 use tile_place::locate_fault::LocateFault;
 use tile_place::machine::Machine;
-use trial_plain_tiles::built_in::machine_of;
 use trial_plain_tiles::located::locate;
 
 /// The depth of a supertile of kind 0 that is not moved, a point, and the result: a tile's kind, turn, shift
@@ -36,12 +34,21 @@ fn told(alloc: Global, machine: &Machine, depth: u8, point: &Point) -> Result<St
     }
 }
 
-#[test]
-fn locates_points_of_the_chair(rt: HostRuntime) -> Result<(), Fail> {
-    let machine = machine_of(rt.alloc(), Name::Chair)?;
-    for (depth, c, wanted) in ROWS.iter() {
-        let text = told(rt.alloc(), &machine, *depth, &Point { c: *c })?;
-        assert_eq!(rt; text.as_str(), *wanted);
+/// Returns true if this is told of a point.
+fn is_told(
+    alloc: Global,
+    machine: &Machine,
+    depth: u8,
+    point: &Point,
+    wanted: &str,
+) -> Result<bool, AllocError> {
+    Ok(told(alloc, machine, depth, point)?.as_str() == wanted)
+}
+
+/// Notes the first point that is located otherwise.
+pub(crate) fn note_located(alloc: Global, wrong: &mut Wrong, chair: &Machine) {
+    for (row, (depth, c, wanted)) in ROWS.iter().enumerate() {
+        let is_right = is_told(alloc, chair, *depth, &Point { c: *c }, wanted);
+        wrong.note("located points", row, is_right.unwrap_or(false));
     }
-    Ok(())
 }

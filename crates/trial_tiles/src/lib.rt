@@ -46,3 +46,7 @@ mod walks;
 mod whole_tiles;
 #[cfg(test)]
 mod window_wholes;
+#[cfg(test)]
+mod worked_out;
+#[cfg(test)]
+mod wrong;

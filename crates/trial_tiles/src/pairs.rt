@@ -4,6 +4,7 @@ ghost use Rattle.std.specs.Prelude.{◌≡◌, ◌<◌};
 ghost use Rattle.rule_model.specs.Tiling.{tiling_of, contacts};
 
 use crate::placed::across;
+use crate::wrong::Wrong;
 use builtin_rules::name::Name;
 use edge_tables::steps::Steps;
 use pair_machine::edge_pair::EdgePair;
@@ -32,14 +33,11 @@ static NODES: [(Name, u32, u32); 5] = [
     (Name::HalfHex, 9, 9),
 ];
 
-#[test]
-fn nodes_and_rows(rt: HostRuntime) -> Result<(), Fail> {
-    for (name, nodes, rows) in NODES.iter() {
-        let machine = machine_of(rt.alloc(), *name)?;
-        let pairs = PairMachine::compile(rt.alloc(), machine.checked().tables())?;
-        assert_eq!(rt; (pairs.nodes(), pairs.rows()), (*nodes, *rows), "{name:?}");
-    }
-    Ok(())
+/// Returns true if a rule has so many nodes and rows.
+fn has_nodes(alloc: Global, name: Name, nodes: u32, rows: u32) -> Result<bool, NoMemory> {
+    let machine = machine_of(alloc, name)?;
+    let pairs = PairMachine::compile(alloc, machine.checked().tables())?;
+    Ok(pairs.nodes() == nodes && pairs.rows() == rows)
 }
 
 /// Two addresses of the chair, and how their tiles lie to each other.
@@ -79,14 +77,27 @@ fn told(alloc: Global, machine: &Machine, a: &[u8], b: &[u8]) -> Result<String, 
     }
 }
 
-#[test]
-fn tiles_of_the_chair(rt: HostRuntime) -> Result<(), Fail> {
-    let machine = machine_of(rt.alloc(), Name::Chair)?;
-    for (a, b, wanted) in VERDICTS.iter() {
-        let text = told(rt.alloc(), &machine, a, b)?;
-        assert_eq!(rt; text.as_str(), *wanted);
+/// Returns true if the tiles of two texts lie to each other like this.
+fn is_told(
+    alloc: Global,
+    machine: &Machine,
+    a: &[u8],
+    b: &[u8],
+    wanted: &str,
+) -> Result<bool, NoMemory> {
+    Ok(told(alloc, machine, a, b)?.as_str() == wanted)
+}
+
+/// Notes the first rule of other numbers, and the first pair of tiles that lie otherwise.
+pub(crate) fn note_pairs(alloc: Global, wrong: &mut Wrong, chair: &Machine) {
+    for (row, (name, nodes, rows)) in NODES.iter().enumerate() {
+        let is_right = has_nodes(alloc, *name, *nodes, *rows);
+        wrong.note("nodes and rows", row, is_right.unwrap_or(false));
     }
-    Ok(())
+    for (row, (a, b, wanted)) in VERDICTS.iter().enumerate() {
+        let is_right = is_told(alloc, chair, a, b, wanted);
+        wrong.note("pairs", row, is_right.unwrap_or(false));
+    }
 }
 
 /// Returns true if a verdict names exactly the edges across which a tile has the other, in order.

@@ -2,7 +2,8 @@
 //! out by hand, each returned by its own call.
 ghost use Rattle.std.specs.Prelude.{◌≡◌, ◌<◌};
 
-use crate::given::{deep, tile_text};
+use crate::given::{deep, spelled, tile_text};
+use crate::wrong::Wrong;
 use builtin_rules::name::Name;
 use edge_tables::steps::Steps;
 use star_walk::star::Star;
@@ -13,6 +14,7 @@ use std::marker::Brand;
 use std::sync::ledger::{Blank, Ledger};
 use std::test::Fail;
 use tile_shape::address::Address;
+use tile_shape::no_memory::NoMemory;
 use trial_plain_tiles::built_in::machine_of;
 use trial_plain_tiles::counts::Counts;
 use trial_plain_tiles::frame_tiles::begun;
@@ -32,18 +34,20 @@ static NAMES: [(Name, u32); 5] = [
     (Name::HalfHex, 357),
 ];
 
-/// Vertices worked out by hand: the rule, the children that lead from a tile of kind 0 down to the tile, the
-/// vertex, and the tiles around it.
-static ROWS: [(Name, &[u8], u8, &str); 3] = [
+/// Vertices worked out by hand: the rule, the children that lead from a tile of kind 0 down to the tile, its
+/// depth, the vertex, and the tiles around it.
+static ROWS: [(Name, &[u8], usize, u8, &str); 4] = [
     (
         Name::Chair,
         &[],
+        0,
         0,
         "0 0 0,0,0,0 0:3/0 0\n0 1 3,1,0,0 0:1/0 2\n",
     ),
     (
         Name::HalfHex,
         &[0],
+        1,
         2,
         "0 0 0,0,0,0 0:0/0 2\n0 2 3,0,0,0 0:1/0 2\n0 3 1,2,0,0 0:2/0 3\n",
     ),
@@ -52,9 +56,12 @@ static ROWS: [(Name, &[u8], u8, &str); 3] = [
     (
         Name::Chair,
         &[1],
+        1,
         5,
         "0 0 0,0,0,0 0:1/0 5\n0 0 -1,-1,0,0 0:0/0 7\n0 1 3,-1,0,0 0:2/0 1\n",
     ),
+    // The tile lies in the corner of every ancestor: its edges 3 and 4 are on the boundary, and lead to vertex 4.
+    (Name::Chair, &[], 64, 4, "DepthLimit 0:0/0«,0/0×63» 3"),
 ];
 
 /// Returns the tiles around a vertex as lines, or the fault.
@@ -80,7 +87,7 @@ fn star_text<L: Ledger>(
     base: &Address,
     vertex: u8,
     blank: Blank,
-) -> Result<String, Fail>
+) -> Result<String, NoMemory>
     requires name { blank.name ≡ L.name }
     requires parts { blank.parts ≡ L.parts }
     requires some { 0 < blank.parts }
@@ -98,24 +105,20 @@ fn star_text<L: Ledger>(
     Ok(told(alloc, &found)?)
 }
 
-#[test]
-fn worked_out(rt: HostRuntime) -> Result<(), Fail> {
-    for (name, children, vertex, wanted) in &ROWS {
-        let base = deep(children, children.len());
-        let text = star_text::<Brand>(rt.alloc(), *name, &base, *vertex, Blank::new(1))?;
-        assert_eq!(rt; text.as_str(), *wanted, "{name:?} {base} {vertex}");
-    }
-    Ok(())
+/// Returns true if a vertex comes out as its row says.
+fn is_right(alloc: Global, row: &(Name, &[u8], usize, u8, &str)) -> Result<bool, NoMemory> {
+    let (name, children, depth, vertex, wanted) = row;
+    let base = deep(children, *depth);
+    let wanted = spelled(alloc, wanted)?;
+    let text = star_text::<Brand>(alloc, *name, &base, *vertex, Blank::new(1))?;
+    Ok(text.as_str() == wanted.as_str())
 }
 
-// The tile lies in the corner of every ancestor: its edges 3 and 4 are on the boundary, and lead to vertex 4.
-#[test]
-fn too_deep(rt: HostRuntime) -> Result<(), Fail> {
-    let corner = deep(&[], 64);
-    let wanted = format!(in rt.alloc(); "DepthLimit {corner} 3")?;
-    let text = star_text::<Brand>(rt.alloc(), Name::Chair, &corner, 4, Blank::new(1))?;
-    assert_eq!(rt; text.as_str(), wanted.as_str());
-    Ok(())
+/// Notes the first vertex that comes out otherwise.
+pub(crate) fn note_stars(alloc: Global, wrong: &mut Wrong) {
+    for (number, row) in ROWS.iter().enumerate() {
+        wrong.note("stars", number, is_right(alloc, row).unwrap_or(false));
+    }
 }
 
 /// How the stars of a built-in rule come out.

@@ -5,16 +5,13 @@ ghost use Rattle.theory_walks.specs.Frames.{IsFrameOf};
 ghost use Rattle.window_cover.specs.Right.{IsRight};
 
 use crate::given::listed;
-use builtin_rules::name::Name;
 use cyclo_points::point::Point;
 use lazy_walk::frame::Frame;
 use plane_geom::window::Window;
 use std::alloc::{AllocError, Global};
-use std::test::Fail;
 use tile_place::machine::Machine;
 use tile_place::placed_tile::PlacedTile;
 use tile_shape::address::Address;
-use trial_plain_tiles::built_in::machine_of;
 use trial_plain_tiles::frame_tiles::begun;
 use trial_plain_tiles::window_tiles::is_window;
 use window_cover::cover::Cover;
@@ -121,16 +118,14 @@ fn told(alloc: Global, machine: &Machine, window: &Window) -> Result<String, All
     }
 }
 
-#[test]
-fn one_step(rt: HostRuntime) -> Result<(), Fail> {
-    let machine = machine_of(rt.alloc(), Name::Chair)?;
+/// Returns true if the window of two chairs is found in one step.
+pub(crate) fn is_one_step(alloc: Global, chair: &Machine) -> Result<bool, AllocError> {
     let window = Window {
         centre: Point { c: [1, 1, 0, 0] },
         w: 2,
         h: 1,
     };
-    let text = told(rt.alloc(), &machine, &window)?;
+    let text = told(alloc, chair, &window)?;
     let wanted = "1 2 0 1\n2 0\n0 0 0,0,0,0 0:3/0\n0 1 3,1,0,0 0:1/0\ndepth 1";
-    assert_eq!(rt; text.as_str(), wanted);
-    Ok(())
+    Ok(text.as_str() == wanted)
 }

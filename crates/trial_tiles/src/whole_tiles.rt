@@ -14,10 +14,10 @@ use half_glue::glue_fault::GlueFault;
 use half_glue::whole_tile::WholeTile;
 use lazy_walk::frame::Frame;
 use std::alloc::{AllocError, Global};
-use std::test::Fail;
 use tile_place::machine::Machine;
 use tile_place::placed_tile::PlacedTile;
 use tile_shape::address::Address;
+use tile_shape::no_memory::NoMemory;
 use tile_shape::reading::read_address;
 use trial_plain_tiles::built_in::machine_of;
 use trial_plain_tiles::frame_tiles::begun;
@@ -92,11 +92,9 @@ fn told(alloc: Global, machine: &Machine, text: &[u8]) -> Result<String, AllocEr
     Ok(String::new(alloc))
 }
 
-// A half kite in the corner of a supertile, and its mirror image: a kite.
-#[test]
-fn kite(rt: HostRuntime) -> Result<(), Fail> {
-    let machine = machine_of(rt.alloc(), Name::P2)?;
-    let text = told(rt.alloc(), &machine, b"0:2/0")?;
-    assert_eq!(rt; text.as_str(), "0 0 0,0,0,0 0:2/0 + 1 1 0,0,0,0 1:1/0");
-    Ok(())
+/// Returns true if a half kite in the corner of a supertile, and its mirror image, are a kite.
+pub(crate) fn is_kite(alloc: Global) -> Result<bool, NoMemory> {
+    let machine = machine_of(alloc, Name::P2)?;
+    let text = told(alloc, &machine, b"0:2/0")?;
+    Ok(text.as_str() == "0 0 0,0,0,0 0:2/0 + 1 1 0,0,0,0 1:1/0")
 }

@@ -1,0 +1,21 @@
+//! The first row of all tables that comes out otherwise.
+
+/// The first row that isn't right: the name of its table, or the row's own text, and its number, counted from
+/// 0. Without such a row the name is empty.
+#[derive(Clone, Copy)]
+pub struct Wrong {
+    pub name: &'static str,
+    pub row: usize,
+}
+
+/// No row is wrong so far.
+pub const NONE: Wrong = Wrong { name: "", row: 0 };
+
+impl Wrong {
+    /// Notes a row, if it is the first that isn't right.
+    pub fn note(&mut self, name: &'static str, row: usize, is_right: bool) {
+        if !is_right && self.name.is_empty() {
+            *self = Wrong { name, row };
+        }
+    }
+}
