@@ -1,4 +1,5 @@
-// Starts the workers while the browser still reads the rest of the page: their code and the engine come first in it.
+// Starts the workers while the browser still reads the rest of the page: their code and the engine come
+// first in it.
 import { Workers } from "./workers.js";
 
 const MOST = 3; // workers: more of them only wait for one another

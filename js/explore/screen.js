@@ -183,9 +183,9 @@ export class Screen {
     return this.top.blocksIn(this.viewIn(this.top)).filter((name) => !this.top.blocks.get(name));
   }
 
-  /** The blocks to be painted next, and how many a worker may have: those in view, and then those around it, of which
-   * none waits in a worker, so that a new view never waits for them. While the scale changes, only those of the view for
-   * which the layer was begun. */
+  /** The blocks to be painted next, and how many a worker may have: those in view, and then those around it,
+   * of which none waits in a worker, so that a new view never waits for them. While the scale changes, only
+   * those of the view for which the layer was begun. */
   next() {
     const { top, state, ratio } = this, isFree = (name) => !top.blocks.has(name);
     if (top.scale !== state.scale * ratio) return [top.goal.filter(isFree), UNDER_WAY];

@@ -54,7 +54,8 @@ export class Workers {
     this.askAll("have", { rules });
   }
 
-  /** Asks all workers. The answer is that of the first; what the others refuse, they refuse again when it counts. */
+  /** Asks all workers. The answer is that of the first; what another refuses, it refuses again when it
+   * counts. */
   askAll(question, more) {
     const [first, ...others] = this.helpers.map((helper) => helper.ask(question, more));
     for (const other of others) other.catch(() => null);
