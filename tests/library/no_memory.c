@@ -127,7 +127,20 @@ static long verify_each(tiling_machine machine) {
     return refused - 2;
 }
 
-/* a refused rule file: its line takes memory, too */
+/* the numbers of a rule, and which tiles meet a window, take no memory */
+static void take_none(tiling_machine machine) {
+    static tiling_rule_numbers rule;
+    static tiling_tile tile;
+    tiling_window window = {{0, 0, 0, 0}, 8, 8};
+    uint8_t flag = 7;
+    asked = 0, refused = 1;
+    tiling_rule(machine, &rule);
+    tiling_status status = tiling_meets_all(machine, &tile, 1, &window, &flag, 1);
+    expect(status == TILING_OK && flag == 1, "tiling_meets_all");
+    expect(asked == 0, "malloc was called");
+}
+
+/* a refused rule file */
 static long refuse_each(void) {
     tiling_status status = TILING_NO_MEMORY;
     for (refused = 1; status == TILING_NO_MEMORY; refused++) {
@@ -168,6 +181,7 @@ int main(void) {
         tiling_machine machine;
         long opening = open_each(names[i], &machine), covering = cover_each(machine);
         long gluing = glue_each(machine), verifying = verify_each(machine);
+        take_none(machine);
         expect(opening > 0 && covering > 0 && gluing > 0 && verifying > 0, "no call of malloc");
         printf("%s: %ld calls of malloc at opening, %ld at covering, %ld at gluing, %ld at verifying\n",
                names[i], opening, covering, gluing, verifying);

@@ -6,6 +6,7 @@ mod EdgeGiven
 mod Fronts
 mod Glued
 mod Holder
+mod Meets
 mod Moved
 mod Opened
 mod PathFaults
