@@ -8,9 +8,9 @@ mod Glued
 mod Holder
 mod Meets
 mod Moved
-mod Opened
 mod PathFaults
 mod TextGiven
 mod Turns
 mod Verified
 mod Walked
+mod WholesFew
