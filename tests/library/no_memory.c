@@ -157,22 +157,26 @@ static long refuse_each(void) {
     return refused - 2;
 }
 
-/* the command, with an answer and with a refusal */
+/* the command, with an answer and with a refusal; it does without some blocks */
 static long call_each(const char *words, int last) {
-    tiling_status status = TILING_NO_MEMORY;
-    for (refused = 1; status == TILING_NO_MEMORY; refused++) {
+    long all = 0, none = 0;
+    for (refused = 0; refused <= all; refused++) {
         long before = blocks;
-        uint8_t out[512] = {0}, none = 0;
+        uint8_t out[512] = {0}, input = 0;
         char note[128] = "";
         size_t count = 77, noted = 77;
         asked = 0;
-        status = tiling_call(words, strlen(words), &none, 0, out, sizeof out, &count, note, sizeof note,
-                             &noted);
+        tiling_status status = tiling_call(words, strlen(words), &input, 0, out, sizeof out, &count, note,
+                                           sizeof note, &noted);
         expect(blocks == before, "a block was kept");
-        expect(status == last || (count == 77 && noted == 77 && !out[0] && !note[0]), "tiling_call");
+        if (!refused) all = asked;
+        if (!refused) expect(status == last && all > 0, "the status");
+        if (status == last) continue;
+        none++;
+        expect(status == TILING_NO_MEMORY && count == 77 && noted == 77 && !out[0] && !note[0], "tiling_call");
     }
-    expect(status == last, "the last status");
-    return refused - 2;
+    expect(2 * none > all, "NO_MEMORY came too rarely");
+    return all;
 }
 
 int main(void) {
