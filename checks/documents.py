@@ -170,24 +170,6 @@ def answers(folder):
         tally.compare("commands of tests", f"{name}: {command}", (told, ended), (wanted, status))
 
 
-def refused_texts():
-    """The tables of `Refused texts`: each row is a change of one line of the rule file that is named above
-    the table."""
-    below = re.split(r"`(rules/\w+\.toml)` is changed", section(read("docs/TUTORIAL.md"), "Refused texts"))
-    for name, table in zip(below[1::2], below[2::2]):
-        base = read(name)
-        for cells in rows(table):
-            if len(cells) != 3 or "RuleRefused" not in cells[2]:
-                continue
-            old, wanted = quoted(cells[0])[0], quoted(cells[2])[0]
-            new = "\n".join(quoted(cells[1]))
-            text = base.replace(old, new, 1) + (f"\n{old}\n" if "at the end" in cells[1] else "")
-            if old not in base:
-                tally.fault("docs/TUTORIAL.md", f"{old} isn't in {name}")
-            where = f"docs/TUTORIAL.md: {cells[0]} of {name}"
-            tally.compare("refused texts", where, call(["check", "rule=-"], text.encode()), (wanted, 3))
-
-
 def typed_in_order():
     """The tutorial's pieces, typed in its own order, are accepted, and have the numbers of the files that it
     names."""
@@ -447,7 +429,6 @@ def main():
         manual = manual.replace("\n$ tiling", "\n    $ ./tiling").replace("| tiling", "| ./tiling")
         commands("docs/tiling.1", re.sub(r"^(?![ .])", "    ", manual, flags=re.M), "    ", folder)
         answers(folder)
-    refused_texts()
     typed_in_order()
     rule_files()
     turned_rules()
