@@ -229,7 +229,7 @@ def rule_files():
 
 
 def rows_of_rules():
-    """The rows of docs/TILINGS.md about rule files, by their names: patch, cut, file, factor, kinds, periodic, N, is."""
+    """The rows of docs/TILINGS.md about rule files, by their names: patch, cut, file, factor, kinds, periodic, N, what."""
     found = {}
     for cells in rows(read("docs/TILINGS.md")):
         link = re.match(r"\[(\w+)\]\(\.\./rules/(?:commented/)?\1\.toml\)$", cells[2]) if len(cells) == 8 else None
