@@ -88,9 +88,14 @@ make_help() {
         -e "s,< rules/,< $share/rules/,; s,the script could not,tiling could not," "$top/docs/HELP.txt"
     cat << END
 'man tiling' has the same in more words, and $prefix/share/doc/tiling/docs
-FORMATS.md, each refusal by example, TUTORIAL.md, a rule file step by step, and LISTINGS.md, a listing from
+FORMATS.md, each refusal with its fix, TUTORIAL.md, a rule file step by step, and LISTINGS.md, a list from
 another program.
 END
+}
+
+# The man page, with the paths of what is installed.
+make_manual() {
+    sed "s,\\(^\\|[ (]\\)docs/,\\1$prefix/share/doc/tiling/docs/,g; s,< rules/,< $share/rules/,g" "$top/docs/tiling.1"
 }
 
 make_version() {
@@ -102,12 +107,13 @@ make_version() {
 version=$(sed -n 's/^__version__ = "\(.*\)"$/\1/p' "$top/python/pagnetuf/__init__.py")
 make_launcher
 make_help > "$work/help"
+make_manual > "$work/manual"
 make_version > "$work/version"
 put 755 "$work/tiling" bin/tiling
 put 755 "$program" lib/tiling/program
 put 644 "$work/help" share/tiling/HELP.txt
 put 644 "$work/version" share/tiling/VERSION
-put 644 "$top/docs/tiling.1" share/man/man1/tiling.1
+put 644 "$work/manual" share/man/man1/tiling.1
 put 644 "$top/tools/installed/completion.bash" share/bash-completion/completions/tiling
 put 644 "$top/tools/installed/completion.zsh" share/zsh/site-functions/_tiling
 
