@@ -1,11 +1,11 @@
 #!/bin/sh
 # Reads the rows of docs/PROMISES.md that have a clause: each promise has at most 40 words, and each name in the column
 # of clauses is a clause, a call, a type or a definition of crates/*/src or crates/*/specs. A name in parentheses after
-# a call, and not after "by", is a clause of this call. In docs/THEOREM.md each piece of code after the name of a source in
-# bold is in that source, line for line, and so is each name with a link. In docs/MATHEMATICS.md each file named with its crate is in specs/ of the crate.
-# Then makes docs/made/CLAUSES.md, the public laws and calls with their clauses, and compares it. Ends with 1 if anything
-# is not so.
-#   checks/promises.sh --write      writes docs/made/CLAUSES.md
+# a call, and not after "by", is a clause of this call. In docs/THEOREM.md each clause and record after the name of a source
+# in bold is in that source, line for line, and so is each name with a link. In docs/MATHEMATICS.md each file named with its
+# crate is in specs/ of the crate. Then makes docs/made/CLAUSES.md, the public laws and calls with their clauses, and
+# compares it. Ends with 1 if anything is not so.
+#   checks/promises.sh --write      writes docs/made/CLAUSES.md, and what docs/THEOREM.md quotes
 . "$(dirname "$0")/needs"
 need python3
 exec python3 - "$top" "$@" << 'END'
@@ -51,17 +51,32 @@ def read(name):
         return file.read()
 
 
+def piece_of(source, head):
+    """The clause or record of a source that begins so, as code of a page: a clause to its last brace, a record to the
+    next empty line."""
+    lines, piece = read(source).split("\n"), []
+    for line in lines[next((at for at, line in enumerate(lines) if re.match(rf"\s*{re.escape(head)}\b", line)), len(lines)) :]:
+        text = "\n".join(piece)
+        if not line.strip() or (head.startswith("ensures") and piece and text.count("{") == text.count("}")):
+            break
+        piece.append(line)
+    return textwrap.indent(textwrap.dedent("\n".join(piece)), "    ")
+
+
 def quoted_clauses():
-    """What THEOREM quotes is in the source named above it: each line in its order, without regard to indentation."""
-    page, quoted = read("docs/THEOREM.md"), 0
-    for source, piece in re.findall(r"\*\*\[`[^`]*`\]\(\.\./([^)]*)\)\*\*.*?\n\n((?: {4}.*\n|\n)+)", page):
-        has = [line.strip() for line in read(source).split("\n")]
-        wanted = [line.strip() for line in piece.split("\n") if line.strip()]
-        quoted += 1
-        if not any(has[at : at + len(wanted)] == wanted for at in range(len(has))):
-            bad.append(f"docs/THEOREM.md quotes {wanted[0]!r}, which {source} does not have so")
-    if quoted < 4:
-        bad.append(f"docs/THEOREM.md quotes {quoted} pieces of sources, and should four")
+    """What THEOREM quotes is in the source named above it, line for line."""
+    page = read("docs/THEOREM.md")
+    quotes = re.findall(r"\*\*\[`[^`]*`\]\(\.\./([^)]*)\)\*\*.*?\n\n(    (ensures \w+|pub record \w+).*\n(?: {4}.*\n)*)", page)
+    for source, quoted, head in quotes:
+        now = piece_of(source, head) + "\n"
+        if now != quoted and is_written and now.strip():
+            page = page.replace(quoted, now)
+            with open(f"{top}/docs/THEOREM.md", "w", encoding="utf-8") as file:
+                file.write(page)
+        elif now != quoted:
+            bad.append(f"docs/THEOREM.md quotes {head}, which {source} has in other words")
+    if len(quotes) != 4:
+        bad.append(f"docs/THEOREM.md quotes {len(quotes)} pieces of sources, and should four")
     for told, source in re.findall(r"\[((?:`\w+`(?:, )?)+)\]\(\.\./(crates/[^)]*)\)", page):
         has = re.findall(r"\w+", read(source))
         bad.extend(f"docs/THEOREM.md names {name} of {source}, which lacks it" for name in re.findall(r"\w+", told) if name not in has)
