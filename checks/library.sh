@@ -97,7 +97,7 @@ build_other() {
     out=$top/crates/tiling_c/out
     mkdir "$work/other" && cp "$out/libtiling_c.a" "$work/kept.a" || return 1
     (cd "$top/crates/tiling_c" && rt lib --backend rattle) > "$work/log" 2>&1 \
-        && "$top/tools/make_library.sh" "$out/libtiling_c.a" "$work/other" >> "$work/log" 2>&1
+        && "$top/packaging/make_library.sh" "$out/libtiling_c.a" "$work/other" >> "$work/log" 2>&1
     built=$?
     mv "$work/kept.a" "$out/libtiling_c.a"
     [ $built = 0 ] || tail -n 5 "$work/log" >&2
