@@ -40,8 +40,8 @@ static int returns(const char *rule) {
 }
 
 int main(void) {
-    const char *rules[] = {"p3", "p2", "ab", "chair", "halfhex"};
-    for (int i = 0; i < 5; i++)
+    const char *rules[] = {"p3", "p2", "ab", "chair"};
+    for (int i = 0; i < 4; i++)
         if (!returns(rules[i])) return printf("the token does not return in %s\n", rules[i]), 1;
     return 0;
 }
