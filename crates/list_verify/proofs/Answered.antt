@@ -14,7 +14,7 @@ use Rattle.listing_text.specs.declared.listing_fault.ListingFault.TheVariants as
 use Rattle.plane_geom.specs.declared.window.Window.{Window}
 use Rattle.rule_model.specs.declared.rule.Rule.{Rule}
 use Rattle.rule_model.specs.Tiling.{Tiling, tiling_of, children}
-use Rattle.window_cover.specs.Windows.{IsWindow, IsLeastEnough}
+use Rattle.window_cover.specs.Windows.{IsWindow, IsLeastForWindow}
 use Rattle.list_verify.specs.declared.list_fault.ListFault.{ListFault}
 use Rattle.list_verify.specs.declared.list_fault.ListFault.TheVariants.{TooLong, Double}
 use Rattle.list_verify.specs.Depth.{IsEnoughRead}
@@ -108,7 +108,7 @@ module _ (t : Tiling) (f g : FrameValue) (w : Window) (entries : List Entry) (gr
 -- it stops with the fault, or finds a stray line
 abbrev IsWalkFault : Tiling → FrameValue → FrameValue → Window → List Entry → ListFault → Type 0
 IsWalkFault t g k w entries fault =
-    (GrowsTo t g k × ((n : ℕ) → IsLeastEnough t g w n → length k.digits ≤ n) × OrNoRoom (IsStoppedBy t g k w entries) fault)
+    (GrowsTo t g k × ((n : ℕ) → IsLeastForWindow t g w n → length k.digits ≤ n) × OrNoRoom (IsStoppedBy t g k w entries) fault)
     ⊎ ((k ≡ g) × IsStrayFault t g w entries fault)
 
 pub its-fault : {walk : Walk} {g k : FrameValue} {fault : ListFault} → IsNotRight walk g k fault
@@ -147,7 +147,8 @@ module _ (m : Rule) (W : HasWalkLaws m) (f : FrameValue) (is : IsFrameOf (tiling
       pub on-frame : AreLinesIn t g lines
       on-frame = lines-in m B.settled B.fits B.laws f is w fit entries g grows depth lines lifted apart
 
-      pub walk-refused : (k : FrameValue) (fault : ListFault) → IsWalkFault t g k w (entries_of lines) fault → IsVerdictOn t f k w (Ok entries) (Err fault)
+      pub walk-refused : (k : FrameValue) (fault : ListFault) → IsWalkFault t g k w (entries_of lines) fault
+          → IsVerdictOn t f k w (Ok entries) (Err fault)
       walk-refused k fault (inl s) =
           refused t f k w entries (GrowsTo-then t f g k grows s.0)
           (λ n enough. s.1 n (enough-grown t f w (Ok entries) n enough entries refl g grows depth)) fault

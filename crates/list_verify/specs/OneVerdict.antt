@@ -17,11 +17,14 @@ use Rattle.list_verify.specs.Verdict.{IsCauseIn, IsTold, IsOfWalk, LacksEntries}
 -- no fault that comes whenever it has a cause.
 pub record HasOneVerdict (t : Tiling) (f : FrameValue) (w : Window) (reading : Reading) : Type 0 where
   pub one_count : (n m : ℕ) → IsRightReading t f w reading n → IsRightReading t f w reading m → n ≡ m
-  pub right_or_not : (n : ℕ) (g : FrameValue) (fault : ListFault) → IsRightReading t f w reading n → IsCauseIn t f g w reading fault → fault ≡ NoMemory
-  pub one_fault : (g h : FrameValue) (one other : ListFault) → IsCauseIn t f g w reading one → IsCauseIn t f h w reading other
+  pub right_or_not : (n : ℕ) (g : FrameValue) (fault : ListFault) → IsRightReading t f w reading n
+      → IsCauseIn t f g w reading fault → fault ≡ NoMemory
+  pub one_fault : (g h : FrameValue) (one other : ListFault) → IsCauseIn t f g w reading one
+      → IsCauseIn t f h w reading other
       → (one ≡ other) ⊎ ((one ≡ NoMemory) ⊎ ((other ≡ NoMemory) ⊎ (IsOfWalk one × IsOfWalk other)))
   pub lacks_or_right : (n : ℕ) → LacksEntries t f w reading → IsRightReading t f w reading n → ⊥
-  pub lacks_or_told : (g : FrameValue) (fault : ListFault) → LacksEntries t f w reading → IsCauseIn t f g w reading fault → IsTold fault → ⊥
+  pub lacks_or_told : (g : FrameValue) (fault : ListFault) → LacksEntries t f w reading
+      → IsCauseIn t f g w reading fault → IsTold fault → ⊥
 
 -- the tiling of an accepted rule over the points of an order
 abbrev pub tiling_accepted : (o : Order) → AcceptedRule (points_of o) → Tiling
@@ -30,5 +33,6 @@ tiling_accepted o T = record { order = o; rule = T.rule }
 -- this holds of every listing, whatever is read of it, of a window on a frame of an accepted rule
 abbrev pub OneVerdictLaw : Order → Type 0
 OneVerdictLaw o =
-    (T : AcceptedRule (points_of o)) (f : FrameValue) (w : Window) (reading : Reading) → IsFrameOf (tiling_accepted o T) f → IsWindow w
+    (T : AcceptedRule (points_of o)) (f : FrameValue) (w : Window) (reading : Reading)
+    → IsFrameOf (tiling_accepted o T) f → IsWindow w
     → HasOneVerdict (tiling_accepted o T) f w reading

@@ -33,7 +33,8 @@ abbrev pub frame_listed : (t : Tiling) → FrameValue → List Entry → TheAddr
 frame_listed t f entries = at_level (full t f) (deepest_listed (length f.digits) (tiles_listed t entries))
 
 -- these entries are read, and the address of each is of that frame
-pub record AreOfFrameGrown (t : Tiling) (f : FrameValue) (reading : Reading) (entries : List Entry) : Type 0 where
+pub record AreOfFrameGrown (t : Tiling) (f : FrameValue) (reading : Reading)
+    (entries : List Entry) : Type 0 where
   pub read : reading ≡ Ok entries
   pub of_frame : AreOfFrame (points_of t.order) t.rule (frame_listed t f entries) (tiles_listed t entries)
 
@@ -54,8 +55,8 @@ pub record HasDouble (t : Tiling) (f : FrameValue) (reading : Reading) (i : ℕ)
   pub lines : AreOfFrameGrown t f reading entries
   pub first : IsDouble (frame_listed t f entries) (tiles_listed t entries) i
 
--- The entries are apart. No value on the way to the centre is refused. Each tile that meets the window has its
--- entry. Entry i, from 0, is the first whose tile does not meet it.
+-- The entries are apart. No value on the way to the centre is refused. Each tile that meets the window has
+-- its entry. Entry i, from 0, is the first whose tile does not meet it.
 pub record HasStrayLine (t : Tiling) (f : FrameValue) (w : Window) (reading : Reading) (i : ℕ) : Type 0 where
   pub entries : List Entry
   pub lines : AreApart t f reading entries
@@ -63,12 +64,14 @@ pub record HasStrayLine (t : Tiling) (f : FrameValue) (w : Window) (reading : Re
   pub stray : HasStray t f w (length f.digits) entries i
 
 -- the entries are apart, and the walk through them, in the frame as it had grown then, has this cause to end
-pub record EndsWalking (t : Tiling) (f g : FrameValue) (w : Window) (reading : Reading) (fault : ListFault) : Type 0 where
+pub record EndsWalking (t : Tiling) (f g : FrameValue) (w : Window) (reading : Reading)
+    (fault : ListFault) : Type 0 where
   pub entries : List Entry
   pub lines : AreApart t f reading entries
   pub stopped : IsStoppedBy t f g w entries fault
 
--- The cause of each fault in what is read; the frame was f, and is g. A line has the number of its entry and one more.
+-- The cause of each fault in what is read; the frame was f, and is g. A line has the number of its entry and
+-- one more.
 abbrev pub IsCauseIn : Tiling → FrameValue → FrameValue → Window → Reading → ListFault → Type 0
 IsCauseIn t f g w reading TooLong = reading ≡ Err text.TooLong
 IsCauseIn t f g w reading (BadLine line place) = reading ≡ Err (text.BadLine line place)
@@ -113,7 +116,8 @@ LacksTiles t f w listing = LacksEntries t f w (listing_in (children t) listing)
 
 -- What is answered of a reading, in a frame that was f and is g: it is right, or a fault has its cause. The
 -- frame is as deep as the entries, and no deeper than is enough.
-pub record IsVerdictOn (t : Tiling) (f g : FrameValue) (w : Window) (reading : Reading) (answer : Result ℕ ListFault) : Type 0 where
+pub record IsVerdictOn (t : Tiling) (f g : FrameValue) (w : Window) (reading : Reading)
+    (answer : Result ℕ ListFault) : Type 0 where
   pub frame : GrowsTo t f g
   pub depth : OnOk answer (IsDepthRead t f reading (length g.digits))
   pub not_beyond : (n : ℕ) → IsEnoughRead t f w reading n → length g.digits ≤ n
@@ -121,7 +125,8 @@ pub record IsVerdictOn (t : Tiling) (f g : FrameValue) (w : Window) (reading : R
   pub cause : IfErr answer (λ fault. IsCauseIn t f g w reading fault)
 
 -- It is answered whenever it is so, unless memory runs out. Of the faults of the walk one comes.
-pub record IsWholeVerdict (t : Tiling) (f g : FrameValue) (w : Window) (reading : Reading) (answer : Result ℕ ListFault) : Type 0 where
+pub record IsWholeVerdict (t : Tiling) (f g : FrameValue) (w : Window) (reading : Reading)
+    (answer : Result ℕ ListFault) : Type 0 where
   pub verdict : IsVerdictOn t f g w reading answer
   pub complete : (n : ℕ) → IsRightReading t f w reading n → (answer ≡ Ok n) ⊎ (answer ≡ Err NoMemory)
   pub told : (fault : ListFault) → IsTold fault → IsCauseIn t f g w reading fault
@@ -129,8 +134,10 @@ pub record IsWholeVerdict (t : Tiling) (f g : FrameValue) (w : Window) (reading 
   pub lacking : LacksEntries t f w reading
       → (answer ≡ Err NoMemory) ⊎ (fault : ListFault) × (answer ≡ Err fault) × IsOfWalk fault
 
--- What is answered of a text. With a fault of the text the frame stays. Too many lines are a fault in any case.
-pub record IsVerdict (t : Tiling) (f g : FrameValue) (w : Window) (listing : List ℕ) (answer : Result ℕ ListFault) : Type 0 where
+-- What is answered of a text. With a fault of the text the frame stays. Too many lines are a fault in any
+-- case.
+pub record IsVerdict (t : Tiling) (f g : FrameValue) (w : Window) (listing : List ℕ)
+    (answer : Result ℕ ListFault) : Type 0 where
   pub on : IsVerdictOn t f g w (listing_in (children t) listing) answer
   pub unread : (fault : ListingFault) → listing_in (children t) listing ≡ Err fault → g ≡ f
   pub too_long : (answer ≡ Err TooLong) ↔ (most_lines < length (lines_in listing))

@@ -50,7 +50,14 @@ pub fn verify_entries(
     one_verdict_law(machine.checked().order());
     let mut entries = entries;
     let multiplier = multiplier_of_entries(entries.as_slice());
-    verdict_of(alloc, machine, frame, window, entries.as_mut_slice(), multiplier)
+    verdict_of(
+        alloc,
+        machine,
+        frame,
+        window,
+        entries.as_mut_slice(),
+        multiplier,
+    )
 }
 
 /// Like [`verify_entries`], in place. The multiplier decides in which bucket an entry is looked for.
