@@ -35,7 +35,7 @@ use Rattle.list_verify.specs.declared.list_fault.ListFault.{ListFault}
 use Rattle.list_verify.specs.declared.list_fault.ListFault.TheVariants.{TooLong, BadLine, Address as BadAddress, BadKind, NotOfFrame, Double, Missing, WrongPlace, Stray, DepthLimit, CoordLimit, NoMemory}
 use Rattle.list_verify.specs.Listing.{tile_listed, tiles_listed, IsRightFor, Reading, IsRightReading, NamesTileThere, HasAllTiles}
 use Rattle.list_verify.specs.ListLaws.{HasListLaws}
-use Rattle.list_verify.specs.OneVerdict.{HasOneVerdict, tiling_accepted}
+use Rattle.list_verify.specs.OneVerdict.{HasOneVerdictOn, tiling_accepted}
 use Rattle.list_verify.specs.Verdict.{fault_of_text, frame_listed, AreOfFrameGrown, AreApart, HasNotOfFrame, HasDouble, HasStrayLine, EndsWalking, IsCauseIn, IsOfWalk, IsTold, LacksEntries}
 use Rattle.list_verify.specs.Walked.{first_refused_at}
 
@@ -326,7 +326,7 @@ module _ (o : Order) (T : AcceptedRule (points_of o)) (fits : StillFits (childre
   lacks-told : (g : FrameValue) (fault : ListFault) → LacksEntries t f w reading → IsCauseIn t f g w reading fault → IsTold fault → ⊥
   lacks-told g fault h k told = elim (lacks-of_walk g fault h k) [ inl e ↦ subst IsTold e told | inr s ↦ of_walk-untold fault s told ]
 
-  pub verdict : HasOneVerdict (tiling_accepted o T) f w reading
+  pub verdict : HasOneVerdictOn (tiling_accepted o T) f w reading
   verdict = record {
     one_count = one-count;
     right_or_not = right-or_not;

@@ -10,7 +10,7 @@ use Rattle.rule_model.specs.Tiling.{Tiling}
 use Rattle.list_verify.specs.declared.list_fault.ListFault.{ListFault}
 use Rattle.list_verify.specs.declared.list_fault.ListFault.TheVariants.{TooLong, BadLine, Address, BadKind, NotOfFrame, Double, Missing, WrongPlace, Stray, DepthLimit, CoordLimit, NoMemory}
 use Rattle.list_verify.specs.Listing.{Reading, IsRightReading}
-use Rattle.list_verify.specs.OneVerdict.{HasOneVerdict}
+use Rattle.list_verify.specs.OneVerdict.{HasOneVerdictOn}
 use Rattle.list_verify.specs.Verdict.{fault_of_text, AreApart, IsCauseIn, IsTold, IsOfWalk, LacksEntries}
 use Rattle.list_verify.specs.Walked.{IsStoppedBy}
 use Rattle.list_verify.proofs.OneVerdict.{of_walk-untold}
@@ -60,7 +60,7 @@ one-of (Double line) = inl tt
 one-of (Stray line) = inl tt
 one-of NoMemory = inr (inr refl)
 
-module _ (t : Tiling) (f g : FrameValue) (w : Window) (reading : Reading) (V : HasOneVerdict t f w reading) where
+module _ (t : Tiling) (f g : FrameValue) (w : Window) (reading : Reading) (V : HasOneVerdictOn t f w reading) where
   pub complete : (r : Result ℕ ListFault) → IfOk r (λ n. IsRightReading t f w reading n) → IfErr r (λ fault. IsCauseIn t f g w reading fault)
       → (n : ℕ) → IsRightReading t f w reading n → (r ≡ Ok n) ⊎ (r ≡ Err NoMemory)
   complete (Ok k) right cause n is = inl (ap (λ j. Ok j) (V.one_count k n right is))

@@ -1,11 +1,12 @@
 -- A listing has one verdict: each excludes the others.
-use Rattle.std.specs.Prelude.{◌≡◌, ◌⊎◌, ℕ}
+use Rattle.std.specs.Prelude.{◌≡◌, ◌⊎◌, ℕ, List}
 use Rattle.cyclo_points.specs.declared.order.Order.{Order}
 use Rattle.cyclo_points.specs.Order.{points_of}
 use Rattle.theory_dissection.specs.Accepted.{AcceptedRule}
 use Rattle.plane_geom.specs.declared.window.Window.{Window}
-use Rattle.rule_model.specs.Tiling.{Tiling}
+use Rattle.rule_model.specs.Tiling.{Tiling, children}
 use Rattle.theory_walks.specs.Frames.{FrameValue, IsFrameOf}
+use Rattle.listing_text.specs.Listing.{listing_in}
 use Rattle.window_cover.specs.Windows.{IsWindow}
 use Rattle.list_verify.specs.declared.list_fault.ListFault.{ListFault}
 use Rattle.list_verify.specs.declared.list_fault.ListFault.TheVariants.{NoMemory}
@@ -15,7 +16,7 @@ use Rattle.list_verify.specs.Verdict.{IsCauseIn, IsTold, IsOfWalk, LacksEntries}
 -- A right listing has one number of lines, and no fault. Two faults that have a cause, each in the frame as
 -- it had grown then, are the same, or both are of the walk. A listing that lacks tiles is not right, and has
 -- no fault that comes whenever it has a cause.
-pub record HasOneVerdict (t : Tiling) (f : FrameValue) (w : Window) (reading : Reading) : Type 0 where
+pub record HasOneVerdictOn (t : Tiling) (f : FrameValue) (w : Window) (reading : Reading) : Type 0 where
   pub one_count : (n m : ℕ) → IsRightReading t f w reading n → IsRightReading t f w reading m → n ≡ m
   pub right_or_not : (n : ℕ) (g : FrameValue) (fault : ListFault) → IsRightReading t f w reading n
       → IsCauseIn t f g w reading fault → fault ≡ NoMemory
@@ -26,6 +27,10 @@ pub record HasOneVerdict (t : Tiling) (f : FrameValue) (w : Window) (reading : R
   pub lacks_or_told : (g : FrameValue) (fault : ListFault) → LacksEntries t f w reading
       → IsCauseIn t f g w reading fault → IsTold fault → ⊥
 
+-- the same of what a text is read as
+abbrev pub HasOneVerdict : Tiling → FrameValue → Window → List ℕ → Type 0
+HasOneVerdict t f w listing = HasOneVerdictOn t f w (listing_in (children t) listing)
+
 -- the tiling of an accepted rule over the points of an order
 abbrev pub tiling_accepted : (o : Order) → AcceptedRule (points_of o) → Tiling
 tiling_accepted o T = record { order = o; rule = T.rule }
@@ -35,4 +40,4 @@ abbrev pub OneVerdictLaw : Order → Type 0
 OneVerdictLaw o =
     (T : AcceptedRule (points_of o)) (f : FrameValue) (w : Window) (reading : Reading)
     → IsFrameOf (tiling_accepted o T) f → IsWindow w
-    → HasOneVerdict (tiling_accepted o T) f w reading
+    → HasOneVerdictOn (tiling_accepted o T) f w reading
