@@ -19,7 +19,6 @@ use crate::entries::verdict_of;
 use crate::laws::one_verdict_law;
 use crate::line_index::multiplier_of;
 use crate::list_fault::ListFault;
-use crate::list_laws::walk_laws;
 use lazy_walk::frame::Frame;
 use listing_text::reading::read_listing;
 use plane_geom::window::Window;
@@ -108,7 +107,6 @@ fn by_walk(
     requires window_fits { IsWindow window.now }
     ensures { IsVerdict (tiling_of machine.now) frame.old frame.new window.now listing.now result }
 {
-    walk_laws(machine);
     let mut entries = match read_listing(alloc, machine.checked().uses(), listing) {
         Ok(entries) => entries,
         Err(fault) => return Err(fault.into()),
