@@ -18,7 +18,7 @@ use Rattle.list_verify.specs.Listing.{Reading, IsRightFor, IsRightReading, tiles
 use Rattle.list_verify.specs.Verdict.{IsCauseIn}
 use Rattle.c_values.specs.declared.plain_address.PlainAddress.{PlainAddress}
 use Rattle.c_values.specs.declared.plain_tile.PlainTile.{PlainTile}
-use Rattle.c_values.specs.Statuses.{ok, no_memory, bad_listing}
+use Rattle.c_values.specs.Statuses.{ok, no_memory, bad_words, bad_address, bad_listing}
 use Rattle.tiling_c.specs.Arrays.{plain_tile_at, plain_address_at}
 use Rattle.tiling_c.specs.Verifying.{entry_given, entries_given, AreEntries, AreTilesOf, status_told, fault_of}
 
@@ -134,6 +134,34 @@ fault_not_ok (Stray _) e = absurd (cc e)
 fault_not_ok (DepthLimit _ _) e = absurd (cc e)
 fault_not_ok (CoordLimit _) e = absurd (cc e)
 fault_not_ok NoMemory e = absurd (cc e)
+
+pub fault_not_words : (why : ListFault) → ¬ status_told why ≡ bad_words
+fault_not_words TooLong e = absurd (cc e)
+fault_not_words (BadLine _ _) e = absurd (cc e)
+fault_not_words (Address _ _) e = absurd (cc e)
+fault_not_words (BadKind _) e = absurd (cc e)
+fault_not_words (NotOfFrame _) e = absurd (cc e)
+fault_not_words (Double _) e = absurd (cc e)
+fault_not_words (Missing _) e = absurd (cc e)
+fault_not_words (WrongPlace _ _) e = absurd (cc e)
+fault_not_words (Stray _) e = absurd (cc e)
+fault_not_words (DepthLimit _ _) e = absurd (cc e)
+fault_not_words (CoordLimit _) e = absurd (cc e)
+fault_not_words NoMemory e = absurd (cc e)
+
+pub fault_not_address : (why : ListFault) → ¬ status_told why ≡ bad_address
+fault_not_address TooLong e = absurd (cc e)
+fault_not_address (BadLine _ _) e = absurd (cc e)
+fault_not_address (Address _ _) e = absurd (cc e)
+fault_not_address (BadKind _) e = absurd (cc e)
+fault_not_address (NotOfFrame _) e = absurd (cc e)
+fault_not_address (Double _) e = absurd (cc e)
+fault_not_address (Missing _) e = absurd (cc e)
+fault_not_address (WrongPlace _ _) e = absurd (cc e)
+fault_not_address (Stray _) e = absurd (cc e)
+fault_not_address (DepthLimit _ _) e = absurd (cc e)
+fault_not_address (CoordLimit _) e = absurd (cc e)
+fault_not_address NoMemory e = absurd (cc e)
 
 -- a right list is refused only if memory runs out
 pub no_room : (r : Result ℕ ListFault) (why : ListFault) (n status : ℕ) → r ≡ Err why → status ≡ status_told why
