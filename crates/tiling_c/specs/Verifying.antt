@@ -96,8 +96,8 @@ status_told (CoordLimit value) = coord_limit
 status_told NoMemory = no_memory
 status_told _ = bad_listing
 
--- All entries are tiles, and they are not right, for a cause in the frame as it had grown by then. This is the
--- status of the fault, its number and its index.
+-- All entries are tiles, and they are not right, for a cause in the frame as it had grown by then. This is
+-- the status of the fault, its number and its index.
 pub record IsFaultOfEntries (t : Tiling) (f : FrameValue) (w : Window) (tiles : List PlainTile)
     (addrs : List PlainAddress) (status fault index : ℕ) : Type 0 where
   pub entries : AreEntries t tiles addrs

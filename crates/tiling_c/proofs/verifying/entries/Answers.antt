@@ -15,7 +15,8 @@ pub loop-index-init : goal.loop-index-init
 loop-index-init c = record {
   given = ap entries_of c.in-Ok.ensures.items ∙ entries_none c.args.tiles.now c.args.addrs.now;
   are_entries = λ i below. absurd (omega (arith, below));
-  fit = subst (λ items. All (λ e. Fits (children (tiling_of c.args.machine.now)) (address_of e.address)) items) (sym c.in-Ok.ensures.items) (none_fit _);
+  fit = subst (All (λ e. Fits (children (tiling_of c.args.machine.now)) (address_of e.address)))
+      (sym c.in-Ok.ensures.items) (none_fit _);
 }
 
 pub returns-in_default-clause-no_tile : goal.returns-in_default-clause-no_tile
