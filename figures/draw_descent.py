@@ -6,9 +6,12 @@
 The frame is that of a tile of KIND with DIGITS, as in 3/0,1/0, the finest first. The window is the box around the tile's
 middle with this half-width and half-height. A panel shows the parts of the supertile when the descent has come down to a LEVEL: in grey
 those left out, in yellow those taken, and in white those that it looks into further."""
+import os
 import sys
 
 sys.dont_write_bytecode = True
+TOP = os.path.dirname(os.path.dirname(os.path.abspath(__file__)))
+sys.path[1:1] = [os.path.join(TOP, "tools")]
 from command_line import Trouble, WrongWords, run  # noqa: E402
 from draw_walk import base_motion, line  # noqa: E402
 from draw_window import meets  # noqa: E402

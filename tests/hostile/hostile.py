@@ -23,6 +23,8 @@ import time
 from typing import NamedTuple
 
 sys.dont_write_bytecode = True
+TOP = os.path.dirname(os.path.dirname(os.path.dirname(os.path.abspath(__file__))))
+sys.path[1:1] = [os.path.join(TOP, "tools"), os.path.join(TOP, "checks")]
 from command_line import WrongWords, run  # noqa: E402
 from hostile_answers import Listing, Wanted  # noqa: E402
 from hostile_inputs import Library, made  # noqa: E402
@@ -35,8 +37,6 @@ CHUNK = 200  # calls that a process makes at a time
 WHOLE = 4000000  # bytes of a text that is looked at whole; of a longer one both ends
 ENDS = 100000  # bytes
 SHOWN = 20
-TOP = os.path.dirname(os.path.dirname(os.path.abspath(__file__)))
-
 
 class Ran(NamedTuple):
     """How a call ended: its status or the signal as a number below 0, its two texts, of a very long one both ends and a

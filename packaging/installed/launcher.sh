@@ -1,6 +1,6 @@
 #!/bin/sh
 # The installed command `tiling` where there is no C compiler to make it of launcher.c, which says what it does.
-# tools/install.sh puts the paths for the names between @.
+# packaging/install.sh puts the paths for the names between @.
 case ${1-} in
 board | poster | explore | atlas)
     export PYTHONPATH="@PACKAGES@${PYTHONPATH:+:$PYTHONPATH}" TILING_COMMAND=tiling

@@ -6,9 +6,12 @@
 The frame is that of a tile of KIND with DIGITS, as in 3/0,1/0, the finest first. The window is the box around the tile's
 middle with this half-width and half-height. The panels show the start, the tiles after STEPS steps, and the end. Found tiles are yellow,
 open edges orange. The edges around the tiles found that are not open, which avoid the window, are blue."""
+import os
 import sys
 
 sys.dont_write_bytecode = True
+TOP = os.path.dirname(os.path.dirname(os.path.abspath(__file__)))
+sys.path[1:1] = [os.path.join(TOP, "tools")]
 from command_line import Trouble, WrongWords, run  # noqa: E402
 from draw_walk import frame, line  # noqa: E402
 from rule_file import box, centre, load, sides  # noqa: E402

@@ -1,6 +1,6 @@
 #!/bin/sh
 # Links the proved object of the program without the dynamic loader, so that a call starts in a fifth of the instructions:
-#   tools/link_static.sh OBJECT PROGRAM    writes PROGRAM, or ends with 1 where there is no C compiler, no C library as an
+#   packaging/link_static.sh OBJECT PROGRAM    writes PROGRAM, or ends with 1 where there is no C compiler, no C library as an
 #                                          archive, or no Rattle kit
 # `./tiling --build` calls it, and keeps PROGRAM only if it answers as the kit's own program does.
 

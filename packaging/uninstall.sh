@@ -1,6 +1,6 @@
 #!/bin/sh
-# Removes what tools/install.sh put below a prefix, by the list that it left there:
-#   tools/uninstall.sh --prefix DIR
+# Removes what packaging/install.sh put below a prefix, by the list that it left there:
+#   packaging/uninstall.sh --prefix DIR
 # Folders that are empty then are removed too. DESTDIR is that of the installation.
 
 usage() {

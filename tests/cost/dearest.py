@@ -17,11 +17,12 @@ import sys
 import tempfile
 
 sys.dont_write_bytecode = True
+TOP = os.path.dirname(os.path.dirname(os.path.dirname(os.path.abspath(__file__))))
+sys.path[1:1] = [os.path.join(TOP, "tools"), os.path.join(TOP, "tests", "hostile"), os.path.join(TOP, "checks")]
 from command_line import WrongWords, run as answer  # noqa: E402
 from fan_rule import RULES, fan_rule  # noqa: E402
 from hostile_answers import BUILT_IN, LONGEST_LISTING, MOST_LISTED  # noqa: E402
 
-TOP = os.path.dirname(os.path.dirname(os.path.abspath(__file__)))
 MOST_TILES = 200000
 MEBIBYTE = 1 << 20
 MOST_SECONDS, MOST_MEMORY = 2, 10**9

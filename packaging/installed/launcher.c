@@ -1,4 +1,4 @@
-/* The installed command `tiling`; tools/install.sh compiles it and gives it the paths.
+/* The installed command `tiling`; packaging/install.sh compiles it and gives it the paths.
  *
  *   tiling, tiling --help, -h, help      prints the help
  *   tiling --version                     prints what is installed

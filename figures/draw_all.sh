@@ -1,8 +1,8 @@
 #!/bin/sh
 # Draws again the pictures that scripts make from rule files, in the folders below FOLDER; the repository's own
 # are those below its top, `.`:
-#   tools/draw_all.sh FOLDER        (Python 3.11 or later)
-# tools/draw_gallery.sh draws those that the program makes.
+#   figures/draw_all.sh FOLDER        (Python 3.11 or later)
+# figures/draw_gallery.sh draws those that the program makes.
 
 usage() {
     sed -n '2,/^$/s/^# \{0,1\}//p' "$0"
@@ -31,9 +31,9 @@ rule --to "$to/docs/figures" docs/refused/*.toml
 patch supertiles --colour turn --window 20,12 --outline 3 rules/half_triangle_three.toml 0 8
 patch address_chair --colour child --label --mark 0:1/0,2/0 --width 400 rules/chair.toml 0 2
 patch address_p3 --colour child --label --mark 2:1/0,0/0 --mark 3:1/2,1/0 --width 400 rules/penrose_p3.toml 0 2
-"$python" tools/draw_dissection.py rules/chair.toml > "$to/docs/gallery/dissection.svg" || fault=1
-"$python" tools/draw_walk.py rules/chair.toml 0 3/0,1/0,0/0 6,6,0,7 > "$to/docs/gallery/walk.svg" || fault=1
-"$python" tools/draw_window.py rules/penrose_p3.toml 0 2/3,1/1,0/1,2/2,0/2,0/2,1/3,1/1 2.2,1.6 9 > "$to/docs/gallery/window.svg" || fault=1
-"$python" tools/draw_descent.py rules/penrose_p3.toml 0 2/3,1/1,0/1,2/2,0/2,0/2,1/3,1/1 5,3.5 5,3,0 > "$to/docs/gallery/descent.svg" || fault=1
-"$python" tools/draw_steps.py 4 6 8 10 > "$to/docs/gallery/steps.svg" || fault=1
+"$python" figures/draw_dissection.py rules/chair.toml > "$to/docs/gallery/dissection.svg" || fault=1
+"$python" figures/draw_walk.py rules/chair.toml 0 3/0,1/0,0/0 6,6,0,7 > "$to/docs/gallery/walk.svg" || fault=1
+"$python" figures/draw_window.py rules/penrose_p3.toml 0 2/3,1/1,0/1,2/2,0/2,0/2,1/3,1/1 2.2,1.6 9 > "$to/docs/gallery/window.svg" || fault=1
+"$python" figures/draw_descent.py rules/penrose_p3.toml 0 2/3,1/1,0/1,2/2,0/2,0/2,1/3,1/1 5,3.5 5,3,0 > "$to/docs/gallery/descent.svg" || fault=1
+"$python" figures/draw_steps.py 4 6 8 10 > "$to/docs/gallery/steps.svg" || fault=1
 exit $fault

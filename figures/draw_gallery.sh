@@ -1,9 +1,9 @@
 #!/bin/sh
 # Draws the gallery again with the program, docs/gallery/drawn and docs/gallery/tilings.html, below FOLDER; the
 # repository's own is that below its top, `.`:
-#   tools/draw_gallery.sh FOLDER        (Python 3.11 or later; the program is the one that TILING names, or ./tiling)
+#   figures/draw_gallery.sh FOLDER        (Python 3.11 or later; the program is the one that TILING names, or ./tiling)
 # Each picture is a window far out in a deep supertile: what `draw` prints, coloured by tools/paint.py; and
-# one shows stars: what `star` prints, drawn by tools/draw_stars.py.
+# one shows stars: what `star` prints, drawn by figures/draw_stars.py.
 
 usage() {
     sed -n '2,/^$/s/^# \{0,1\}//p' "$0"
@@ -98,7 +98,7 @@ picture tuebingen_triangles - 'seed=1 addr=0: at=700000,-300000,0,0 half=16,8'
     > "$to/docs/gallery/drawn/rhombs.svg" || fault=1
 
 # the stars of Penrose's rhombs, by de Bruijn's names
-"$python" tools/draw_stars.py "$program" rules/penrose_p3.toml \
+"$python" figures/draw_stars.py "$program" rules/penrose_p3.toml \
     D 2:1/0,0/0 0 J 2:0/2,0/2,0/2 0 Q 2:0/2,1/0,0/0 2 K 2:0/2,0/2,0/2,0/2 2 S3 0:0/0,0/0,0/0,0/0 0 \
     S4 0:0/0,2/3,0/3,0/3,0/3 0 S 2:1/0,0/0,0/0,0/0,0/0 2 S5 3:0/3,1/1,0/1,0/1,0/1,0/1 2 \
     > "$to/docs/gallery/drawn/stars.svg" || fault=1

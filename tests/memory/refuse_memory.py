@@ -3,7 +3,7 @@
 
     refuse_memory.py PROGRAM        (Python 3.11 or later, on Linux, with a C compiler `cc` and a program that uses libc)
 
-A library made of tools/refuse_memory.c is loaded before the program's own and counts what `main` allocates. A call is run
+A library made of tests/memory/refuse_memory.c is loaded before the program's own and counts what `main` allocates. A call is run
 once undisturbed. Then, for each number up to its last allocation, it is run once with no memory for that one, and once
 with none from it on. It must end with 11, nothing on standard output and its note, or give its full answer. While the
 arguments are read, it may end without a note. Ends with 1 if a call does anything else, and with 2 if what the script
@@ -17,9 +17,9 @@ import tempfile
 import tomllib
 
 sys.dont_write_bytecode = True
+TOP = os.path.dirname(os.path.dirname(os.path.dirname(os.path.abspath(__file__))))
+sys.path[1:1] = [os.path.join(TOP, "tools"), os.path.join(TOP, "checks")]
 from command_line import WrongWords, run  # noqa: E402
-TOP = os.path.dirname(os.path.dirname(os.path.abspath(__file__)))
-sys.path.insert(1, os.path.join(TOP, "checks"))
 from supertiles import address  # noqa: E402
 from windows import Box, Frame, Tiling, shift_of  # noqa: E402
 
@@ -150,7 +150,7 @@ def main(words):
     with tempfile.TemporaryDirectory() as folder, concurrent.futures.ThreadPoolExecutor(2) as pool:
         library = built(folder)
         if not library:
-            print("refuse_memory: there is no C compiler cc that makes tools/refuse_memory.c", file=sys.stderr)
+            print("refuse_memory: there is no C compiler cc that makes tests/memory/refuse_memory.c", file=sys.stderr)
             return 2
         trial = Trial(os.path.abspath(words[0]), library, folder)
         if trial.run(("check rule=chair", b""))[1] == 0:

@@ -4,9 +4,12 @@
     draw_steps.py ORDER .. > PICTURE.svg      each ORDER 4, 6, 8 or 10
 """
 import cmath
+import os
 import sys
 
 sys.dont_write_bytecode = True
+TOP = os.path.dirname(os.path.dirname(os.path.abspath(__file__)))
+sys.path[1:1] = [os.path.join(TOP, "tools")]
 from command_line import WrongWords, run  # noqa: E402
 
 UNIT, CELL, HEAD = 60, 270, 34

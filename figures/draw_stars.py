@@ -6,10 +6,13 @@
 Each vertex takes three arguments: the text below it, the address of a tile, and the number of a vertex of it. What `star`
 prints is drawn. If only one half of a tile has the vertex, the other half is drawn in a lighter colour, as its mirror
 image. No line is drawn where two halves are glued. Edges of type 0 and of its mate are red."""
+import os
 import subprocess
 import sys
 
 sys.dont_write_bytecode = True
+TOP = os.path.dirname(os.path.dirname(os.path.abspath(__file__)))
+sys.path[1:1] = [os.path.join(TOP, "tools")]
 from command_line import Trouble, WrongWords, run  # noqa: E402
 from rule_file import load, sides  # noqa: E402
 

@@ -1,4 +1,4 @@
-# Completion of the command `tiling` for bash; tools/install.sh puts it where bash-completion looks.
+# Completion of the command `tiling` for bash; packaging/install.sh puts it where bash-completion looks.
 # tools/words.awk has the same table, and checks/install.sh compares the two.
 
 # What may stand behind a key and its sign of equality, with blanks between.

@@ -1,5 +1,5 @@
 #compdef tiling
-# Completion of the command `tiling` for zsh; tools/install.sh puts it where zsh looks.
+# Completion of the command `tiling` for zsh; packaging/install.sh puts it where zsh looks.
 
 _tiling() {
     local -A keys values options

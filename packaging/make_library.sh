@@ -1,6 +1,6 @@
 #!/bin/sh
 # Makes the C library from the archive of crates/tiling_c, as the kit builds it:
-#   tools/make_library.sh ARCHIVE FOLDER    writes libtiling.a and, where there is gcc, libtiling.so.0 into FOLDER
+#   packaging/make_library.sh ARCHIVE FOLDER    writes libtiling.a and, where there is gcc, libtiling.so.0 into FOLDER
 # Both hold what they need of the kit, and only tiling_* is seen of them, so that a program may have other libraries of
 # the kit as well. KIT names the folder of the kit; without it that of the `rt` on the PATH is taken.
 

@@ -1,7 +1,7 @@
 #!/bin/sh
 # Installs the built program and what belongs to it:
-#   tools/install.sh --prefix DIR              below DIR, an absolute path, as /usr/local
-#   DESTDIR=FOLDER tools/install.sh --prefix DIR    the same files below FOLDER, for makers of packages
+#   packaging/install.sh --prefix DIR              below DIR, an absolute path, as /usr/local
+#   DESTDIR=FOLDER packaging/install.sh --prefix DIR    the same files below FOLDER, for makers of packages
 #
 #   bin/tiling                  the command: help, the commands of the Python package, or the program
 #   lib/tiling/program          the proved program itself
@@ -11,7 +11,7 @@
 #   share/tiling                help, rule files, scripts, and `installed`, the list of all that was put there
 #   share/doc/tiling            documents
 #
-# tools/uninstall.sh --prefix DIR removes what the list names. `./tiling --build` comes first. The program is
+# packaging/uninstall.sh --prefix DIR removes what the list names. `./tiling --build` comes first. The program is
 # that which TILING names, or .tiling/program, with the library beside it. PYTHON names the interpreter of
 # the Python package: python3.
 
@@ -72,10 +72,10 @@ make_launcher() {
     for how in -static -O2; do
         ! command -v cc > /dev/null || ! cc -O2 -Wall $how -s -DPROGRAM="\"$prefix/lib/tiling/program\"" \
             -DSHARE="\"$share\"" -DPACKAGES="\"$prefix/$packages\"" -DPYTHON="\"$python\"" \
-            -o "$work/tiling" "$top/tools/installed/launcher.c" 2> /dev/null || return 0
+            -o "$work/tiling" "$top/packaging/installed/launcher.c" 2> /dev/null || return 0
     done
     sed -e "s|@PROGRAM@|$prefix/lib/tiling/program|; s|@SHARE@|$share|; s|@PACKAGES@|$prefix/$packages|" \
-        -e "s|@PYTHON@|$python|" "$top/tools/installed/launcher.sh" > "$work/tiling"
+        -e "s|@PYTHON@|$python|" "$top/packaging/installed/launcher.sh" > "$work/tiling"
 }
 
 # The help without what only a checkout has, and with the commands of the Python package.
@@ -88,9 +88,14 @@ make_help() {
         -e "s,< rules/,< $share/rules/,; s,the script could not,tiling could not," "$top/docs/HELP.txt"
     cat << END
 'man tiling' has the same in more words, and $prefix/share/doc/tiling/docs
-FORMATS.md, each refusal by example, TUTORIAL.md, a rule file step by step, and LISTINGS.md, a listing from
+FORMATS.md, each refusal with its fix, TUTORIAL.md, a rule file step by step, and LISTINGS.md, a list from
 another program.
 END
+}
+
+# The man page, with the paths of what is installed.
+make_manual() {
+    sed "s,\\(^\\|[ (]\\)docs/,\\1$prefix/share/doc/tiling/docs/,g; s,< rules/,< $share/rules/,g" "$top/docs/tiling.1"
 }
 
 make_version() {
@@ -102,19 +107,20 @@ make_version() {
 version=$(sed -n 's/^__version__ = "\(.*\)"$/\1/p' "$top/python/pagnetuf/__init__.py")
 make_launcher
 make_help > "$work/help"
+make_manual > "$work/manual"
 make_version > "$work/version"
 put 755 "$work/tiling" bin/tiling
 put 755 "$program" lib/tiling/program
 put 644 "$work/help" share/tiling/HELP.txt
 put 644 "$work/version" share/tiling/VERSION
-put 644 "$top/docs/tiling.1" share/man/man1/tiling.1
-put 644 "$top/tools/installed/completion.bash" share/bash-completion/completions/tiling
-put 644 "$top/tools/installed/completion.zsh" share/zsh/site-functions/_tiling
+put 644 "$work/manual" share/man/man1/tiling.1
+put 644 "$top/packaging/installed/completion.bash" share/bash-completion/completions/tiling
+put 644 "$top/packaging/installed/completion.zsh" share/zsh/site-functions/_tiling
 
 if [ -f "$built/libtiling.a" ]; then
     put 644 "$top/include/tiling.h" include/tiling.h
     put 644 "$built/libtiling.a" lib/libtiling.a
-    sed "s/@VERSION@/$version/" "$top/tools/installed/tiling.pc" > "$work/pc"
+    sed "s/@VERSION@/$version/" "$top/packaging/installed/tiling.pc" > "$work/pc"
     put 644 "$work/pc" lib/pkgconfig/tiling.pc
 else
     say "there is no $built/libtiling.a, so no C library"
@@ -128,11 +134,12 @@ fi
 put_all python/pagnetuf "$packages/pagnetuf"
 put_all rules share/tiling/rules
 for name in paint.py corners.py draw_rule.py draw_patch.py draw_page.py page.html command_line.py rule_file.py \
-    toml_document.py older_toml.py uninstall.sh; do
+    toml_document.py older_toml.py; do
     mode=644
     [ ! -x "$top/tools/$name" ] || mode=755
     put $mode "$top/tools/$name" "share/tiling/tools/$name"
 done
+put 755 "$top/packaging/uninstall.sh" share/tiling/tools/uninstall.sh
 put 644 "$top/README.md" share/doc/tiling/README.md
 put_all docs share/doc/tiling/docs
 for name in rules tools; do

@@ -7,6 +7,8 @@ import tomllib
 from typing import NamedTuple
 
 sys.dont_write_bytecode = True
+TOP = os.path.dirname(os.path.dirname(os.path.dirname(os.path.abspath(__file__))))
+sys.path[1:1] = [os.path.join(TOP, "tools"), os.path.join(TOP, "checks")]
 from command_line import is_module, run  # noqa: E402
 from hostile_answers import BUILT_IN, COMMANDS, DEEPEST, LONGEST, LONGEST_LISTING, MOST_LISTED, NOT_OVER_FILES  # noqa: E402
 from hostile_answers import Shape, parsed  # noqa: E402

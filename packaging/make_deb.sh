@@ -1,8 +1,8 @@
 #!/bin/sh
 # Makes a package of Debian's form of the built program and what belongs to it:
-#   tools/make_deb.sh FOLDER      writes tiling_VERSION_ARCHITECTURE.deb into FOLDER
+#   packaging/make_deb.sh FOLDER      writes tiling_VERSION_ARCHITECTURE.deb into FOLDER
 # `./tiling --build` comes first. The package needs nothing but the C library; the commands of the Python
-# package need python3 and python3-numpy. TILING names another program, as for tools/install.sh, which puts the
+# package need python3 and python3-numpy. TILING names another program, as for packaging/install.sh, which puts the
 # files. MAINTAINER is who makes the package: the author of the last commit.
 
 usage() {
@@ -25,7 +25,7 @@ version=$(sed -n 's/^__version__ = "\(.*\)"$/\1/p' "$top/python/pagnetuf/__init_
 maintainer=${MAINTAINER:-$(git -C "$top" log -1 --format='%an <%ae>' 2> /dev/null || echo 'unknown <unknown@localhost>')}
 architecture=$(dpkg --print-architecture)
 
-DESTDIR=$root PYTHON=/usr/bin/python3 "$top/tools/install.sh" --prefix /usr
+DESTDIR=$root PYTHON=/usr/bin/python3 "$top/packaging/install.sh" --prefix /usr
 # (dpkg keeps its own list of files and removes them by it)
 rm -f "$root/usr/share/tiling/installed" "$root/usr/share/tiling/tools/uninstall.sh"
 gzip -9n "$root/usr/share/man/man1/tiling.1"

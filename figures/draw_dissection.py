@@ -3,9 +3,12 @@
 
     draw_dissection.py FILE.toml > PICTURE.svg      (Python 3.11 or later)
 """
+import os
 import sys
 
 sys.dont_write_bytecode = True
+TOP = os.path.dirname(os.path.dirname(os.path.abspath(__file__)))
+sys.path[1:1] = [os.path.join(TOP, "tools")]
 from command_line import WrongWords, run  # noqa: E402
 from rule_file import box, centre, cross, load, sides  # noqa: E402
 

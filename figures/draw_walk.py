@@ -6,9 +6,12 @@
 The base is a tile of that kind. DIGITS are those that it grows, as in 3/0,1/0, the finest first. PATH has the numbers of
 the edges crossed, as in 0,3. The base stays where it is, and so does every tile found."""
 import cmath
+import os
 import sys
 
 sys.dont_write_bytecode = True
+TOP = os.path.dirname(os.path.dirname(os.path.abspath(__file__)))
+sys.path[1:1] = [os.path.join(TOP, "tools")]
 from command_line import Trouble, WrongWords, run  # noqa: E402
 from rule_file import box, centre, load, sides  # noqa: E402
 

@@ -6,8 +6,9 @@ import re
 import sys
 
 sys.dont_write_bytecode = True
+TOP = os.path.dirname(os.path.dirname(os.path.dirname(os.path.abspath(__file__))))
+sys.path[1:1] = [os.path.join(TOP, "tools"), os.path.join(TOP, "checks")]
 from command_line import is_module, run  # noqa: E402
-sys.path.insert(1, os.path.join(os.path.dirname(os.path.dirname(os.path.abspath(__file__))), "checks"))
 from supertiles import Ring  # noqa: E402
 from toml_document import NotToml, document_of  # noqa: E402
 from windows import words_of  # noqa: E402

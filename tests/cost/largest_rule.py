@@ -8,11 +8,14 @@ these shapes, lying and standing. Without the smaller one all tiles would be at 
 each kind is cut, and which kinds its children have and which way around. Each step chooses again for one kind or one
 child, and keeps the change unless fewer pairs of edges meet. A node is such a pair; there could be (15 * 12 + 10) ** 2 =
 36,100 of these. Their number is printed to standard error, with each tenth of the steps. It uses nothing of the engine."""
+import os
 import random
 import sys
 from collections import deque
 
 sys.dont_write_bytecode = True
+TOP = os.path.dirname(os.path.dirname(os.path.dirname(os.path.abspath(__file__))))
+sys.path[1:1] = [os.path.join(TOP, "tools")]
 from command_line import WrongWords, run  # noqa: E402
 
 FACTOR, KINDS = 3, 16
