@@ -1,5 +1,5 @@
 """Where the package finds the program, the C library, rule files and scripts: in a checkout, or where
-tools/install.sh puts them."""
+packaging/install.sh puts them."""
 import os
 import shutil
 from typing import Optional
