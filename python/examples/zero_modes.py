@@ -1,9 +1,9 @@
 """Zero modes of the vertex model of Penrose's rhombs: states of energy 0.
 
-Their share of all states tends to 81 - 50 phi = 0.0983 (M. Arai, T. Tokihiro, T. Fujiwara and M. Kohmoto, Strictly
-localized states on a two-dimensional Penrose lattice, 1988). A patch has more with its rim cut off and fewer with
-it, so the limit lies between the two: one counts them as the rank of the matrix that leads from one half of the
-vertices to the other, as rhombs have no odd circles."""
+Their share of all states tends to 81 - 50 phi = 0.0983 (M. Arai, T. Tokihiro, T. Fujiwara and M. Kohmoto,
+Strictly localized states on a two-dimensional Penrose lattice, 1988). A patch has more with its rim cut off
+and fewer with it, so the limit lies between the two: one counts them as the rank of the matrix that leads
+from one half of the vertices to the other, as rhombs have no odd circles."""
 import numpy as np
 from pagnetuf import Tiling
 

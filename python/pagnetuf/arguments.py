@@ -1,4 +1,5 @@
-"""What callers pass, read once: whole numbers are whole, and an argument that isn't what it should be is named.
+"""What callers pass, read once: whole numbers are whole, and an argument that isn't what it should be is
+named.
 
 A number with a fraction is never cut off. TypeError is for what isn't of the kind that a call takes, and
 ValueError for too many, too few, or out of range."""
@@ -86,11 +87,13 @@ def whole_array(name: str, values: Any) -> np.ndarray:
 
 
 def numbers_of_tiles(name: str, tiles: Any, count: int) -> np.ndarray:
-    """Which of `count` tiles: numbers, a mask, a slice or one number, as int64 (k,). IndexError where there is no
-    such tile."""
+    """Which of `count` tiles: numbers, a mask, a slice or one number, as int64 (k,). IndexError where there
+    is no such tile."""
     if isinstance(tiles, slice):
         return np.arange(count)[tiles]
-    found = np.atleast_1d(np.asarray(tiles if np.ndim(tiles) or not isinstance(tiles, Iterable) else list(tiles)))
+    found = np.atleast_1d(
+        np.asarray(tiles if np.ndim(tiles) or not isinstance(tiles, Iterable) else list(tiles))
+    )
     if found.ndim != 1:
         raise TypeError(f"{name} have one axis, and not the shape {found.shape}")
     if found.dtype.kind == "b":

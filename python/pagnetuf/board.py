@@ -1,8 +1,8 @@
 """The board of a patch: one content, as JSON, as tables of CSV, and as arrays of numpy.
 
-`content` is the whole of it, as plain values; board.schema.json beside this file says what each means. The other
-forms have the same under the same names: JSON is the content itself, each table is a file of CSV, and the arrays are
-those of `Patch`."""
+`content` is the whole of it, as plain values; board.schema.json beside this file says what each means. The
+other forms have the same under the same names: JSON is the content itself, each table is a file of CSV, and
+the arrays are those of `Patch`."""
 import csv
 import io
 import json
@@ -29,7 +29,9 @@ def content(patch: Patch, about: Optional[Dict[str, Any]] = None) -> Dict[str, A
 
 def rows(patch: Patch, table: str) -> Iterator[Any]:
     """The rows of a table."""
-    return {"tiles": _tiles, "vertices": _vertices, "edges": _edges, "rim": _rim, "stars": _stars}[table](patch)
+    return {"tiles": _tiles, "vertices": _vertices, "edges": _edges, "rim": _rim, "stars": _stars}[table](
+        patch
+    )
 
 
 def _ragged(numbers: np.ndarray, counts: np.ndarray) -> List[List[Optional[int]]]:
@@ -89,9 +91,9 @@ def as_json(patch: Patch, about: Optional[Dict[str, Any]] = None) -> Iterator[st
 
 
 def as_csv(patch: Patch, about: Optional[Dict[str, Any]] = None) -> Dict[str, Iterator[str]]:
-    """The text of each file of CSV by its name, in pieces: `board`, with the head, and one for each table. In a field
-    a list has blanks between its entries, a list of pairs has a/b for each, and nothing is -."""
-    head = ([{"name": name, "value": json.dumps(value)} for name, value in head_of(patch, about).items()])
+    """The text of each file of CSV by its name, in pieces: `board`, with the head, and one for each table. In
+    a field a list has blanks between its entries, a list of pairs has a/b for each, and nothing is -."""
+    head = [{"name": name, "value": json.dumps(value)} for name, value in head_of(patch, about).items()]
     return {"board": _csv(iter(head)), **{name: _csv(rows(patch, name)) for name in TABLES}}
 
 
@@ -118,8 +120,8 @@ def _field(value: Any) -> Any:
 
 
 def arrays(patch: Patch, about: Optional[Dict[str, Any]] = None) -> Dict[str, np.ndarray]:
-    """The arrays of the board by their names, as `Patch` has them, with what `Patch.from_npz` reads. The head is one
-    text of JSON. Lists of different lengths are one array, and the lengths of its parts another."""
+    """The arrays of the board by their names, as `Patch` has them, with what `Patch.from_npz` reads. The head
+    is one text of JSON. Lists of different lengths are one array, and the lengths of its parts another."""
     names, stars = patch.star_labels()
     loops = patch.rim()
     pairs = np.array([pair for star in names for pair in star], np.int32).reshape(-1, 2)
@@ -161,5 +163,3 @@ def _halves(patch: Patch) -> Dict[str, np.ndarray]:
 def _bytes_of(records: np.ndarray) -> np.ndarray:
     """A structured array as uint8 (n, size), which any reader of such files takes."""
     return np.ascontiguousarray(records).view(np.uint8).reshape(len(records), records.dtype.itemsize)
-
-

@@ -1,9 +1,10 @@
 """Proper colourings: no two tiles that share an edge are alike.
 
 The rhombs of Penrose, and all tilings by parallelograms, can be coloured with three colours (T. Sibley and
-S. Wagon, Rhombic Penrose tilings can be 3-colored, 2000): each part of one has a tile with at most two neighbours
-in it, so tiles are taken away one by one, and coloured in the opposite order. Kites and darts can be as well
-(R. Babilon, 3-colourability of Penrose kite-and-dart tilings, 2001). Any tiling can be with four."""
+S. Wagon, Rhombic Penrose tilings can be 3-colored, 2000): each part of one has a tile with at most two
+neighbours in it, so tiles are taken away one by one, and coloured in the opposite order. Kites and darts can
+be as well (R. Babilon, 3-colourability of Penrose kite-and-dart tilings, 2001). Any tiling can be with
+four."""
 from typing import Dict, List, Tuple
 
 import numpy as np
@@ -47,8 +48,8 @@ def greedy(near: List[List[int]]) -> List[int]:
 
 
 def chain(near: List[List[int]], colours: List[int], start: int, other: int) -> List[int]:
-    """The tiles of the colour of `start` and of another colour that hang together with it (A. Kempe), or those up to
-    LONGEST of them."""
+    """The tiles of the colour of `start` and of another colour that hang together with it (A. Kempe), or
+    those up to LONGEST of them."""
     pair, found, seen = (colours[start], other), [start], {start}
     for tile in found:
         if len(found) > LONGEST:
@@ -61,8 +62,8 @@ def chain(near: List[List[int]], colours: List[int], start: int, other: int) -> 
 
 
 def freed(near: List[List[int]], colours: List[int], tile: int, count: int) -> bool:
-    """Gives a tile one of `count` colours, by exchanging two colours along chains at its neighbours, if that can
-    be."""
+    """Gives a tile one of `count` colours, by exchanging two colours along chains at its neighbours, if that
+    can be."""
     for colour in range(count):
         for other in range(count):
             if other == colour or exchanged(near, colours, tile, colour, other):
@@ -73,8 +74,8 @@ def freed(near: List[List[int]], colours: List[int], tile: int, count: int) -> b
 
 
 def exchanged(near: List[List[int]], colours: List[int], tile: int, colour: int, other: int) -> bool:
-    """Exchanges two colours along the chains at the neighbours of one colour, unless a chain comes back to the tile
-    with the other colour."""
+    """Exchanges two colours along the chains at the neighbours of one colour, unless a chain comes back to
+    the tile with the other colour."""
     chains = []
     for beside in near[tile]:
         if colours[beside] == colour:
@@ -88,8 +89,8 @@ def exchanged(near: List[List[int]], colours: List[int], tile: int, colour: int,
 
 
 def solved(near: List[List[int]], colours: List[int], tile: int, count: int, radius: int) -> bool:
-    """Colours the tiles up to some steps from a tile anew, with `count` colours, the others as they are, if a search
-    of at most LONGEST_SEARCH steps finds how."""
+    """Colours the tiles up to some steps from a tile anew, with `count` colours, the others as they are, if a
+    search of at most LONGEST_SEARCH steps finds how."""
     inside = [tile]
     layer = {tile}
     for _ in range(radius):
@@ -97,7 +98,8 @@ def solved(near: List[List[int]], colours: List[int], tile: int, count: int, rad
         inside += sorted(layer)
     members = set(inside)
     open_to = {
-        it: set(range(count)) - {colours[other] for other in near[it] if other not in members} for it in inside
+        it: set(range(count)) - {colours[other] for other in near[it] if other not in members}
+        for it in inside
     }
     found: Dict[int, int] = {}
     trail: List[Tuple[int, List[int], List[Tuple[int, int]]]] = []
@@ -138,8 +140,8 @@ def with_fewer(near: List[List[int]], colours: List[int], count: int) -> bool:
 
 
 def proper_colouring(neighbours: np.ndarray) -> Tuple[np.ndarray, int]:
-    """A colour of each tile, from 0, uint8 (n,), and how many there are: three if that many are found to be enough,
-    else four, else five. `neighbours` is that of a patch. The same patch has the same colours."""
+    """A colour of each tile, from 0, uint8 (n,), and how many there are: three if that many are found to be
+    enough, else four, else five. `neighbours` is that of a patch. The same patch has the same colours."""
     near = [sorted({other for other in row if other >= 0}) for row in neighbours.tolist()]
     colours = greedy(near)
     for count in (4, 3):

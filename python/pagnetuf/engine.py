@@ -119,9 +119,9 @@ class Machine(ABC):
     def neighbour_all(
         self, addresses: Addresses, edges: np.ndarray, out: Optional[np.ndarray] = None
     ) -> Tuple[Addresses, np.ndarray]:
-        """`neighbour` of each, with an integer array of edges: the addresses, of the form in which they were given, and uint8 (n, 2) of the
-        edges that lead back and the statuses. With `out`, an ADDRESS array (n,), the addresses are put there;
-        it may be `addresses` itself."""
+        """`neighbour` of each, with an integer array of edges: the addresses, of the form in which they were
+        given, and uint8 (n, 2) of the edges that lead back and the statuses. With `out`, an ADDRESS array
+        (n,), the addresses are put there; it may be `addresses` itself."""
 
     @abstractmethod
     def cover(self, frame: Frame, box: Box, glue: bool = False, addresses: bool = True) -> Found:

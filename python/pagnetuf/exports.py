@@ -1,5 +1,5 @@
-"""Patches as other libraries take them: graphs, matrices, tables, GeoJSON, files of numpy. numpy alone is needed;
-each other library is asked for when its call is made."""
+"""Patches as other libraries take them: graphs, matrices, tables, GeoJSON, files of numpy. numpy alone is
+needed; each other library is asked for when its call is made."""
 import importlib
 import json
 from typing import TYPE_CHECKING, Any, Dict, List, Optional, Union
@@ -159,5 +159,3 @@ def read_npz(path: Any) -> Patch:
         if "halves" in file:
             return WholePatch(rule, tiles, addresses, file["halves"])
         return Patch(rule, tiles, addresses)
-
-

@@ -34,7 +34,9 @@ _SQUARE = {4: (0, 0), 6: (0, 0), 8: (2, 0), 10: (1, 1)}
 GOLDEN = (1 + math.sqrt(5)) / 2
 _SURD = {4: 0.0, 6: 0.0, 8: math.sqrt(2), 10: GOLDEN}
 SIGN_LIMIT = 1 << 29  # of p and q of a number p + q s, for an exact sign in 64 bits
-FACTOR_LIMIT = 1 << 30  # of p and q of each of two numbers, for an exact product of them, and the difference of two
+FACTOR_LIMIT = (
+    1 << 30
+)  # of p and q of each of two numbers, for an exact product of them, and the difference of two
 POINT_LIMIT = 1 << 60  # of a coefficient, for exact coordinates
 
 
@@ -113,8 +115,8 @@ class Ring:
         )
 
     def crossings(self, a: np.ndarray, b: np.ndarray) -> np.ndarray:
-        """X(a) Y(b) - X(b) Y(a) for points (.., 4), as pairs (.., 2), exactly: positive where b lies to the left
-        of a. OverflowError where a coordinate is above 2^30."""
+        """X(a) Y(b) - X(b) Y(a) for points (.., 4), as pairs (.., 2), exactly: positive where b lies to the
+        left of a. OverflowError where a coordinate is above 2^30."""
         (ax, ay), (bx, by) = self.scaled(a), self.scaled(b)
         return self.product(ax, by) - self.product(bx, ay)
 

@@ -100,7 +100,8 @@ class Growth:
             self.touched[corner] -= 1
 
     def key(self, tile: int) -> float:
-        """Which tile comes next: one in a notch, with at most one edge free, else that which reaches least far."""
+        """Which tile comes next: one in a notch, with at most one edge free, else that which reaches least
+        far."""
         return self.reach[tile] - (1e6 if len(self.near[tile]) - self.shared(tile) < 2 else 0)
 
     def grow(self) -> bool:
@@ -127,7 +128,9 @@ class Growth:
 
     def exchange(self) -> bool:
         """Takes away a tile that shares just one edge, for one that shares more."""
-        thorns = sorted((tile for tile in self.inside if self.shared(tile) < 2), key=lambda it: -self.reach[it])
+        thorns = sorted(
+            (tile for tile in self.inside if self.shared(tile) < 2), key=lambda it: -self.reach[it]
+        )
         for thorn in thorns:
             self.remove(thorn)
             spots = {other for tile in self.inside for other in self.near[tile]} - self.inside - {-1, thorn}

@@ -34,7 +34,8 @@ def holding(patch: "Patch", point: np.ndarray) -> np.ndarray:
 
 
 def around(patch: "Patch", xy: Tuple[float, float], margin: float = 1e-9) -> np.ndarray:
-    """Which tiles of a patch hold a place in lengths, or lie at most `margin` from it, with floats: bool (n,)."""
+    """Which tiles of a patch hold a place in lengths, or lie at most `margin` from it, with floats: bool
+    (n,)."""
     triangles, real = fan(patch, np.arange(len(patch)))
     corners = patch.rule.ring.xy(triangles) - np.array(xy)
     inside = real.copy()

@@ -1,8 +1,8 @@
 """The engine: the C library, called in the process by ctypes. Tiles of a window come as arrays.
 
 The library is the one that TILING_LIBRARY names, or one next to the package's files, or that of .tiling of a
-checkout, or the installed one. include/tiling.h is its header. Where a call refuses, the command's own line is
-asked for by tiling_call, so that the exception has its fields."""
+checkout, or the installed one. include/tiling.h is its header. Where a call refuses, the command's own line
+is asked for by tiling_call, so that the exception has its fields."""
 import ctypes
 import struct
 import threading
@@ -136,8 +136,8 @@ def library_at(path: str) -> Library:
 
 
 class Scratch(threading.local):
-    """What a thread hands to calls on single tiles, made once: an address, a tile, a text, two numbers, and pointers
-    to them."""
+    """What a thread hands to calls on single tiles, made once: an address, a tile, a text, two numbers, and
+    pointers to them."""
 
     def __init__(self) -> None:
         self.address, self.tile = (ctypes.c_uint8 * ADDRESS.itemsize)(), (ctypes.c_uint8 * TILE.itemsize)()
@@ -158,8 +158,8 @@ class LibraryEngine(Engine):
         found = path or places.library()
         if not found:
             raise NoEngine(
-                f"there is no C library {places.LIBRARIES[0]}: the wheel of the package has it, `./tiling --build` makes "
-                "it in a checkout, and the variable TILING_LIBRARY names another"
+                f"there is no C library {places.LIBRARIES[0]}: the wheel of the package has it, `./tiling --build` "
+                "makes it in a checkout, and the variable TILING_LIBRARY names another"
             )
         self.library = library_at(found)
 
@@ -313,7 +313,14 @@ class LibraryMachine(Machine):
             window, flags = np.zeros((), WINDOW), np.zeros(len(tiles), np.uint8)
             window["at"], (window["w"], window["h"]) = box.at, box.half
             status = self.library.meets_all(
-                *(self.handle, given.ctypes.data, len(given), window.ctypes.data, flags.ctypes.data, len(flags))
+                *(
+                    self.handle,
+                    given.ctypes.data,
+                    len(given),
+                    window.ctypes.data,
+                    flags.ctypes.data,
+                    len(flags),
+                )
             )
             if status != OK:
                 raise BadWords()
@@ -326,8 +333,8 @@ class LibraryMachine(Machine):
         return self._or_refused(status, found, lambda: self.asked.cover(frame, box, glue, addresses))
 
     def _or_refused(self, status: int, answer: Answer, ask: Callable[[], Answer]) -> Answer:
-        """The answer if the status is OK. Else the same question is asked of the command, which raises the refusal
-        with its fields."""
+        """The answer if the status is OK. Else the same question is asked of the command, which raises the
+        refusal with its fields."""
         if status == NoMemory.status:
             raise NoMemory()
         return answer if status == OK else ask()
@@ -429,10 +436,14 @@ class LibraryMachine(Machine):
                 self.asked.place(text)  # (which is refused)
                 raise NoEngine(f"{text!r} is refused, and isn't")
             both[spot] = np.frombuffer(bytes(scratch.address), ADDRESS)[0]
-        self.library.pair(self.handle, both.ctypes.data, both.ctypes.data + ADDRESS.itemsize, told.ctypes.data)
+        self.library.pair(
+            self.handle, both.ctypes.data, both.ctypes.data + ADDRESS.itemsize, told.ctypes.data
+        )
         if told["relation"] != BESIDE:
             return RELATIONS[int(told["relation"])]
-        return " ".join(f"{edge}/{back}" for edge, back in enumerate(told["backs"].tolist()) if back != NO_BACK)
+        return " ".join(
+            f"{edge}/{back}" for edge, back in enumerate(told["backs"].tolist()) if back != NO_BACK
+        )
 
     def common(self, a: str, b: str) -> Optional[int]:
         return self.asked.common(a, b)
@@ -450,7 +461,9 @@ class LibraryMachine(Machine):
                 *(addresses.ctypes.data, len(addresses), ctypes.byref(fault), ctypes.byref(index)),
             )
         if status == BadListing.status:
-            fields = (FAULTS[fault.value],) if fault.value == MISSING else (FAULTS[fault.value], index.value + 1)
+            fields = (
+                (FAULTS[fault.value],) if fault.value == MISSING else (FAULTS[fault.value], index.value + 1)
+            )
             raise BadListing(*fields)
         return self._or_refused(status, len(tiles), lambda: self._refused_window(frame, box, len(tiles)))
 

@@ -1,7 +1,7 @@
 """Which tiles meet a window, exactly.
 
-Two convex sets without their boundaries, a triangle of a tile and a window, are apart exactly if the direction of a
-side of one of them separates them."""
+Two convex sets without their boundaries, a triangle of a tile and a window, are apart exactly if the
+direction of a side of one of them separates them."""
 import numpy as np
 
 from .engine import Box

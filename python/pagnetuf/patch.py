@@ -1,8 +1,21 @@
 """Tiles of a window as exact arrays: corners, vertices, edges, neighbours, stars.
 
-What other libraries take, as graphs, tables, matrices and files, is made in `exports`, and pictures in `picture`."""
+What other libraries take, as graphs, tables, matrices and files, is made in `exports`, and pictures in
+`picture`."""
 from functools import cached_property
-from typing import TYPE_CHECKING, Any, Dict, Iterator, List, NamedTuple, Optional, Sequence, Tuple, Union, overload
+from typing import (
+    TYPE_CHECKING,
+    Any,
+    Dict,
+    Iterator,
+    List,
+    NamedTuple,
+    Optional,
+    Sequence,
+    Tuple,
+    Union,
+    overload,
+)
 
 import numpy as np
 
@@ -27,8 +40,8 @@ SHOWN = 5000  # up to so many tiles a notebook shows a patch as a picture
 
 
 class Tile(NamedTuple):
-    """A tile of a patch: the motion z -> zeta^turn z + shift takes the prototile of its kind there. `address` is None
-    where the patch has none."""
+    """A tile of a patch: the motion z -> zeta^turn z + shift takes the prototile of its kind there. `address`
+    is None where the patch has none."""
 
     kind: int
     turn: int
@@ -80,10 +93,12 @@ class Patch:
         return (Tile(kind, turn, (a, b, c, d), address) for kind, turn, (a, b, c, d), address in rows)
 
     @overload
-    def __getitem__(self, tiles: int) -> Tile: ...
+    def __getitem__(self, tiles: int) -> Tile:
+        ...
 
     @overload
-    def __getitem__(self, tiles: Union[slice, Sequence[int], np.ndarray]) -> "Patch": ...
+    def __getitem__(self, tiles: Union[slice, Sequence[int], np.ndarray]) -> "Patch":
+        ...
 
     def __getitem__(self, tiles):
         """One tile by its number; or the patch of a slice, of numbers, or of a mask."""
@@ -126,7 +141,8 @@ class Patch:
         return frozen(places)
 
     def polygons(self) -> List[np.ndarray]:
-        """x and y of the corners of each tile, in lengths: float64 (count, 2) each, for matplotlib or shapely."""
+        """x and y of the corners of each tile, in lengths: float64 (count, 2) each, for matplotlib or
+        shapely."""
         xy = self.rule.ring.xy(self.outlines())
         return [frozen(corners[:count]) for corners, count in zip(xy, self.counts.tolist())]
 
@@ -163,8 +179,10 @@ class Patch:
         return self._woven[0]
 
     def sides(self) -> np.ndarray:
-        """The tiles beside each edge of `edges`: int32 (E, 4), the tile to the left of its way from the first vertex
-        to the second, the tile to the right, and the number that the edge has in each; -1 outside the patch."""
+        """The tiles beside each edge of `edges`: int32 (E, 4), the tile to the left of its way from the first
+        vertex to the second, the tile to the right, and the number that the edge has in each; -1 outside the
+        patch.
+        """
         most, size = self.outlines().shape[1], len(self.vertices())
         start, end = self.corners().astype(np.int64).ravel(), self._next.astype(np.int64).ravel()
         keys = self.edges().astype(np.int64) @ [size, 1]
@@ -236,9 +254,9 @@ class Patch:
         return frozen(np.stack(np.divmod(keys, max(1, len(self.vertices()))), 1).astype(np.int32))
 
     def rim(self) -> List[np.ndarray]:
-        """The boundary as closed lines: int32 (k,) each, the numbers of its vertices. The patch is to their left, so
-        that a line around it goes counterclockwise, and one around a hole clockwise. At a vertex where tiles only
-        touch, the line turns back along the same tiles."""
+        """The boundary as closed lines: int32 (k,) each, the numbers of its vertices. The patch is to their
+        left, so that a line around it goes counterclockwise, and one around a hole clockwise. At a vertex
+        where tiles only touch, the line turns back along the same tiles."""
         most, corners, counts = self.outlines().shape[1], self.corners().ravel(), self.counts.tolist()
         across = self._across
         waiting = dict.fromkeys(np.flatnonzero((across < 0) & (corners >= 0)).tolist())
@@ -280,8 +298,8 @@ class Patch:
         return frozen(np.nanmean(self.xy(), 1))
 
     def chosen(self, tiles: Tiles) -> "Patch":
-        """The patch of some of its tiles, given by their numbers or by a mask. IndexError where there is no such
-        tile."""
+        """The patch of some of its tiles, given by their numbers or by a mask. IndexError where there is no
+        such tile."""
         some = numbers_of_tiles("tiles", tiles, len(self))
         return Patch(self.rule, taken(self.tiles, some), named(self._addresses, some))
 
@@ -289,9 +307,9 @@ class Patch:
         """The patch of `count` tiles, connected by edges, that grows from the tile nearest to a point. The
         next tile is always the one nearest to that point that shares an edge with the patch.
 
-        With shape="round" or "rectangle" (four by three) it is smoother: the next tile is the one that reaches least
-        far out, tiles in notches come first, the patch stays without holes, and no tile is left at the rim that
-        shares just one edge, as far as others can stand for it."""
+        With shape="round" or "rectangle" (four by three) it is smoother: the next tile is the one that
+        reaches least far out, tiles in notches come first, the patch stays without holes, and no tile is left
+        at the rim that shares just one edge, as far as others can stand for it."""
         from .growth import grown, nearest_connected
 
         if integer("count", count) < 1:
@@ -302,53 +320,58 @@ class Patch:
         return self.chosen(nearest_connected(self, count, centre))
 
     def structure_factor(self, waves: np.ndarray, radius: Optional[float] = None) -> np.ndarray:
-        """S(k) of the vertices: |sum of w exp(i k r)|^2 / sum of w^2 for wave vectors k (.., 2), per length, as
-        float64 (..). Without `radius` each w is 1, so that S(0) is V. With it the vertices count by a smooth edge,
-        w = exp(-3 (r / radius)^2) around the middle of the patch, up to `radius`, which leaves no rings around the
-        peaks. S(k) / S(0) is the intensity that is compared with a window's transform."""
+        """S(k) of the vertices: |sum of w exp(i k r)|^2 / sum of w^2 for wave vectors k (.., 2), per length,
+        as float64 (..). Without `radius` each w is 1, so that S(0) is V. With it the vertices count by a
+        smooth edge, w = exp(-3 (r / radius)^2) around the middle of the patch, up to `radius`, which leaves
+        no rings around the peaks. S(k) / S(0) is the intensity that is compared with a window's transform."""
         from .exports import structure_factor
 
         return structure_factor(self, waves, radius)
 
     def to_networkx(self, kind: str = "tiles") -> "networkx.Graph":
-        """The tiles as a graph of networkx, or with kind="vertices" the vertices and edges. Its `pos` is the place of
-        each node, for `networkx.draw(graph, graph.pos)`. The attributes are numbers and texts, which GraphML takes. A
-        tile has kind, turn, address, and the x and y of its middle; an edge has `edges`, such as "2/0" for edge 2 of
-        the tile with the lesser number and edge 0 of the other. A vertex has x, y, a0 to a3, and the number of its
-        star, -1 at the rim. ImportError without networkx."""
+        """The tiles as a graph of networkx, or with kind="vertices" the vertices and edges. Its `pos` is the
+        place of each node, for `networkx.draw(graph, graph.pos)`. The attributes are numbers and texts, which
+        GraphML takes. A tile has kind, turn, address, and the x and y of its middle; an edge has `edges`,
+        such as "2/0" for edge 2 of the tile with the lesser number and edge 0 of the other. A vertex has x,
+        y, a0 to a3, and the number of its star, -1 at the rim. ImportError without networkx."""
         from .exports import tile_graph, vertex_graph
 
-        return {"tiles": tile_graph, "vertices": vertex_graph}[one_of("kind", kind, ("tiles", "vertices"))](self)
+        return {"tiles": tile_graph, "vertices": vertex_graph}[one_of("kind", kind, ("tiles", "vertices"))](
+            self
+        )
 
     def adjacency_matrix(self, kind: str = "tiles") -> "scipy.sparse.csr_matrix":
-        """The symmetric matrix with a 1 for tiles that share an edge, or with kind="vertices" for the two ends of each
-        edge: float64, in scipy's rows. ImportError without scipy."""
+        """The symmetric matrix with a 1 for tiles that share an edge, or with kind="vertices" for the two
+        ends of each edge: float64, in scipy's rows. ImportError without scipy."""
         from .exports import adjacency_matrix
 
         return adjacency_matrix(self, one_of("kind", kind, ("tiles", "vertices")))
 
     def to_frame(self, kind: str = "tiles") -> "pandas.DataFrame":
-        """A table of pandas with a row for each tile, vertex or edge, as `kind` says. ImportError without pandas."""
+        """A table of pandas with a row for each tile, vertex or edge, as `kind` says. ImportError without
+        pandas."""
         from .exports import frame
 
         return frame(self, one_of("kind", kind, ("tiles", "vertices", "edges")))
 
     @property
     def __geo_interface__(self) -> Dict[str, Any]:
-        """The tiles as a FeatureCollection of GeoJSON, which shapely and geopandas take: x and y in lengths."""
+        """The tiles as a FeatureCollection of GeoJSON, which shapely and geopandas take: x and y in
+        lengths."""
         from .exports import features
 
         return features(self)
 
     def to_geojson(self) -> str:
-        """The text of `__geo_interface__`: a polygon for each tile, with its number, kind, turn and address."""
+        """The text of `__geo_interface__`: a polygon for each tile, with its number, kind, turn and
+        address."""
         from .exports import geojson
 
         return geojson(self)
 
     def to_npz(self, path: Any) -> None:
-        """Writes the patch into a file of numpy, from which `from_npz` reads it: with its rule, and with all that the
-        board of board.schema.json has, under the same names."""
+        """Writes the patch into a file of numpy, from which `from_npz` reads it: with its rule, and with all
+        that the board of board.schema.json has, under the same names."""
         from .exports import write_npz
 
         write_npz(self, path)
@@ -362,20 +385,24 @@ class Patch:
 
     @classmethod
     def from_listing(cls, tiling: "Tiling", text: Union[str, bytes]) -> "Patch":
-        """The patch of a text that `draw layers=list` prints, with glue=yes or without. ValueError for another text.
-        `Tiling.verify` says whether it is right."""
+        """The patch of a text that `draw layers=list` prints, with glue=yes or without. ValueError for
+        another text. `Tiling.verify` says whether it is right."""
         from .exports import patch_of_listing
 
         return patch_of_listing(tiling.rule, text)
 
     def to_svg(
-        self, width: int = 800, colours: Optional[Sequence[str]] = None, ids: bool = False, by: Optional[str] = None
+        self,
+        width: int = 800,
+        colours: Optional[Sequence[str]] = None,
+        ids: bool = False,
+        by: Optional[str] = None,
     ) -> str:
-        """A picture, `width` pixels wide: a polygon of the classes `tile`, kK and tT for each tile. `by` is what the
-        colours stand for: "kind", "turn", "child", or "neighbours", where no two tiles with a common edge are alike.
-        By default it is the first of the three that tells tiles apart. `colours` are texts such as "#0b3954" or
-        "red", taken by kind unless `by` says otherwise, in order and again. With `ids` each tile has its number,
-        address and neighbours."""
+        """A picture, `width` pixels wide: a polygon of the classes `tile`, kK and tT for each tile. `by` is
+        what the colours stand for: "kind", "turn", "child", or "neighbours", where no two tiles with a common
+        edge are alike. By default it is the first of the three that tells tiles apart. `colours` are texts
+        such as "#0b3954" or "red", taken by kind unless `by` says otherwise, in order and again. With `ids`
+        each tile has its number, address and neighbours."""
         from .picture import svg_of
 
         return svg_of(self, width, colour_texts("colours", colours), ids, by)
@@ -391,9 +418,9 @@ class Patch:
         colours: Optional[Sequence[str]] = None,
         **look: Any,
     ) -> "matplotlib.axes.Axes":
-        """Draws the tiles on axes of matplotlib, of a new figure by default, and returns the axes. `by` and `colours`
-        are as for `to_svg`; `look` is handed to matplotlib's PolyCollection, such as linewidths=0.2. ImportError
-        without matplotlib."""
+        """Draws the tiles on axes of matplotlib, of a new figure by default, and returns the axes. `by` and
+        `colours` are as for `to_svg`; `look` is handed to matplotlib's PolyCollection, such as
+        linewidths=0.2. ImportError without matplotlib."""
         from .picture import plotted
 
         return plotted(self, ax, by, colour_texts("colours", colours), look)

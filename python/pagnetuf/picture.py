@@ -104,18 +104,22 @@ def steps_of(count: int) -> List[str]:
 
 
 def classes_by(patch: "Patch", by: str) -> np.ndarray:
-    """The class of each tile, that its colour stands for: the kind, the turn, the number as a child, or a proper
-    colouring; a whole tile has its first half's."""
+    """The class of each tile, that its colour stands for: the kind, the turn, the number as a child, or a
+    proper colouring; a whole tile has its first half's."""
     if by == "neighbours":
         return proper_colouring(patch.neighbours())[0]
-    return {"kind": patch.kinds, "turn": patch.turns}[by] if by != "child" else patch.addresses["digits"][:, 0, 0]
+    return (
+        {"kind": patch.kinds, "turn": patch.turns}[by]
+        if by != "child"
+        else patch.addresses["digits"][:, 0, 0]
+    )
 
 
 def fills_of(
     patch: "Patch", colours: Optional[Sequence[str]], by: Optional[str]
 ) -> Tuple[str, np.ndarray, Dict[int, str]]:
-    """What the colours are by, the class of each tile, and the colour of each class that occurs. Given colours are
-    by kind, unless `by` says otherwise."""
+    """What the colours are by, the class of each tile, and the colour of each class that occurs. Given
+    colours are by kind, unless `by` says otherwise."""
     own = colours_of(patch.rule, hasattr(patch, "halves"))
     usual = "turn" if own.usual == "child" and not patch.has_addresses else own.usual
     by = one_of("by", by or ("kind" if colours else usual), BY)
@@ -128,7 +132,11 @@ def fills_of(
 
 
 def svg_of(
-    patch: "Patch", width: int = 800, colours: Optional[Sequence[str]] = None, ids: bool = False, by: Optional[str] = None
+    patch: "Patch",
+    width: int = 800,
+    colours: Optional[Sequence[str]] = None,
+    ids: bool = False,
+    by: Optional[str] = None,
 ) -> str:
     """See `Patch.to_svg`."""
     xy = patch.xy() * (1, -1)

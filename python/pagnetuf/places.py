@@ -1,5 +1,5 @@
-"""Where the package finds the C library, rule files, the page, and the program: beside its own files, as a wheel
-has them, in a checkout, or where tools/install.sh puts them."""
+"""Where the package finds the C library, rule files, the page, and the program: beside its own files, as a
+wheel has them, in a checkout, or where tools/install.sh puts them."""
 import os
 import re
 import shutil
@@ -59,7 +59,9 @@ def rule_file(name: str) -> Optional[str]:
 def page() -> Optional[str]:
     """The page to pan and zoom: next to the package's files, in a checkout, or the installed one."""
     installed = os.path.join(PREFIX, "share", "doc", "tiling", "docs", "explore.html")
-    return first_of([os.path.join(HERE, "explore.html"), os.path.join(CHECKOUT, "docs", "explore.html"), installed])
+    return first_of(
+        [os.path.join(HERE, "explore.html"), os.path.join(CHECKOUT, "docs", "explore.html"), installed]
+    )
 
 
 def shown(path: str) -> str:
@@ -74,6 +76,6 @@ def is_checkout() -> bool:
 
 
 def command() -> str:
-    """What a user types before the arguments of the engine: `tiling` where it is installed, as its launcher reports,
-    ./tiling in a checkout, and else `pagnetuf`, which takes them too."""
+    """What a user types before the arguments of the engine: `tiling` where it is installed, as its launcher
+    reports, ./tiling in a checkout, and else `pagnetuf`, which takes them too."""
     return os.environ.get("TILING_COMMAND") or ("./tiling" if is_checkout() else "pagnetuf")

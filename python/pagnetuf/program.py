@@ -1,4 +1,5 @@
-"""The engine by the words of its command: over the program `tiling`, or over any engine that answers such words.
+"""The engine by the words of its command: over the program `tiling`, or over any engine that answers such
+words.
 
 The program is that which the variable TILING_PROGRAM names, or .tiling/program of the checkout that holds
 this package, or the installed one, or `tiling` on the PATH. A call takes one to two milliseconds beside its
@@ -29,8 +30,9 @@ def find_program() -> str:
 
 
 class ProgramEngine(Engine):
-    """Machines over the program at a path, or over the one that is found: for comparisons, as it is slower than the
-    library. What is in no answer of the program, the numbers of a rule for geometry, is the library's."""
+    """Machines over the program at a path, or over the one that is found: for comparisons, as it is slower
+    than the library. What is in no answer of the program, the numbers of a rule for geometry, is the
+    library's."""
 
     def __init__(self, path: Optional[str] = None):
         self.path = path or find_program()
@@ -66,8 +68,8 @@ def rule_by_library(name: str, file: Optional[bytes]) -> Rule:
 
 
 class CommandMachine(Machine):
-    """A rule that is named to an engine by the words of the command, or whose file stands for standard input. Its
-    numbers are asked for when they are needed."""
+    """A rule that is named to an engine by the words of the command, or whose file stands for standard input.
+    Its numbers are asked for when they are needed."""
 
     def __init__(self, engine: Engine, name: str, file: Optional[bytes], rule: Callable[[], Rule]):
         self.engine, self.name, self.file, self._rule = engine, name, file, rule
@@ -148,9 +150,11 @@ class CommandMachine(Machine):
         except Refusal as refused:
             return refused
 
-    def _script_answers(self, scripts: Sequence[str], alone: Callable[[int], Tuple[str, dict]]) -> List[Answer]:
-        """Runs the scripts as a few long ones. A line that is refused ends its script: what stands before it is run
-        again, the question of the line is asked alone, and the next script begins behind it."""
+    def _script_answers(
+        self, scripts: Sequence[str], alone: Callable[[int], Tuple[str, dict]]
+    ) -> List[Answer]:
+        """Runs the scripts as a few long ones. A line that is refused ends its script: what stands before it
+        is run again, the question of the line is asked alone, and the next script begins behind it."""
         answers: List[Answer] = []
         most = len(scripts)  # as many as the next script may have
         while (start := len(answers)) < len(scripts):
@@ -169,7 +173,12 @@ class CommandMachine(Machine):
         return answers
 
     def _window(self, frame: Frame, box: Box, glue: bool) -> bytes:
-        keys: Dict[str, Any] = {**frame_words(frame), **box_words(box), "layers": "list", **({"glue": "yes"} if glue else {})}
+        keys: Dict[str, Any] = {
+            **frame_words(frame),
+            **box_words(box),
+            "layers": "list",
+            **({"glue": "yes"} if glue else {}),
+        }
         return self.ask("draw", **keys)
 
     def cover(self, frame: Frame, box: Box, glue: bool = False, addresses: bool = True) -> Found:

@@ -48,9 +48,7 @@ class BadWords(Refusal, ValueError):
     def sentence(self) -> str:
         if self.fields and not self.field(0).isdigit():
             return self.field(0)
-        return (
-            "a number is out of range: at has four up to 1048576, half two from 1 to 4096, and a seed is below 2^64"
-        )
+        return "a number is out of range: at has four up to 1048576, half two from 1 to 4096, a seed is below 2^64"
 
 
 class RuleTooLong(Refusal, ValueError):
@@ -76,7 +74,7 @@ class RuleRefused(Refusal, ValueError):
         "BadLength": "edge {2} of kind {1} is not as long as the first edge of its type",
         "BadSubdivision": "the mate of edge type {1} is not cut as it is",
         "ChildEdgeLoose": "edge {3} of child {2} of kind {1} meets no whole edge, and is not on the boundary",
-        "BoundaryWrong": "the inflated edge {2} of kind {1} is not cut into the parts of its type, from part {3} on",
+        "BoundaryWrong": "the inflated edge {2} of kind {1} is not cut as its type says, from part {3} on",
         "Unused": "kind {1} is no child of any kind",
         "GlueWrong": "the glue type {1} does not determine the other half",
     }
@@ -100,7 +98,7 @@ class BadAddress(Refusal, ValueError):
             "BadText": f"the text is no address: it goes wrong after {spot} characters",
             "TooDeep": "an address has at most 64 digits",
             "UnknownKind": f"the rule has no such kind as the address has at level {spot}",
-            "WrongChild": f"digit {spot} of the address, counted from 0, names no child, or one of another kind",
+            "WrongChild": f"digit {spot} of the address, counted from 0, names no child of this kind",
         }.get(what, "the address is not one of a tile of this rule")
         return f"{told}; an address is KIND:CHILD/PARENT,.. from fine to coarse, such as 0:1/0,2/0"
 

@@ -11,8 +11,8 @@ from .geometry import Ring
 
 
 class Kind:
-    """A prototile: `vertices` is int64 (m, 4), `children` int64 (c, 6): kind, turn, shift. `glue_edge` is the edge
-    along which two halves are one whole tile, or -1."""
+    """A prototile: `vertices` is int64 (m, 4), `children` int64 (c, 6): kind, turn, shift. `glue_edge` is the
+    edge along which two halves are one whole tile, or -1."""
 
     def __init__(self, vertices: Any, children: Any, glue_edge: int = -1):
         self.vertices = frozen(np.array(vertices, np.int64).reshape(-1, 4))
@@ -21,8 +21,8 @@ class Kind:
 
 
 class Rule:
-    """A rule's order, inflation factor and prototiles, and what geometry needs of them. `whole_kinds` are the kinds
-    that whole tiles may have: those without a glue edge, and those of first halves."""
+    """A rule's order, inflation factor and prototiles, and what geometry needs of them. `whole_kinds` are the
+    kinds that whole tiles may have: those without a glue edge, and those of first halves."""
 
     def __init__(self, order: int, factor: Sequence[int], kinds: Sequence[Kind], whole_kinds: Sequence[int]):
         self.order, self.ring, self.kinds = order, Ring(order), list(kinds)
@@ -39,7 +39,11 @@ class Rule:
     def to_text(self) -> str:
         """The numbers of the rule as a text of JSON, from which `from_text` makes it again."""
         kinds = [
-            {"vertices": kind.vertices.tolist(), "children": kind.children.tolist(), "glue_edge": kind.glue_edge}
+            {
+                "vertices": kind.vertices.tolist(),
+                "children": kind.children.tolist(),
+                "glue_edge": kind.glue_edge,
+            }
             for kind in self.kinds
         ]
         numbers = {"order": self.order, "factor": self.factor.tolist(), "whole_kinds": self.whole_kinds}

@@ -1,8 +1,9 @@
 """The numbers of a rule, as the library tells them.
 
-With the interface 2, tiling_rule fills them into one struct. With the interface 1 the exports give the order, the prototiles and their glue edges. A child of a supertile is where the address of one
-digit has its place. The factor takes the side of a prototile to the side of its supertile, whose ends are those of
-the children's edges that lie there. And a walk across a glue edge leads to the other half."""
+With the interface 2, tiling_rule fills them into one struct. With the interface 1 the exports give the order,
+the prototiles and their glue edges. A child of a supertile is where the address of one digit has its place.
+The factor takes the side of a prototile to the side of its supertile, whose ends are those of the children's
+edges that lie there. And a walk across a glue edge leads to the other half."""
 import ctypes
 from typing import TYPE_CHECKING, List, Optional, Tuple
 
@@ -18,7 +19,13 @@ if TYPE_CHECKING:
 
 OUTLINE = np.dtype([("corners", "<i8", (12, 4)), ("count", "u1"), ("rest", "u1", 7)])
 KIND = np.dtype(
-    [("prototile", OUTLINE), ("children", TILE, 16), ("edges", "u1", 12), ("child_count", "u1"), ("rest", "u1", 3)]
+    [
+        ("prototile", OUTLINE),
+        ("children", TILE, 16),
+        ("edges", "u1", 12),
+        ("child_count", "u1"),
+        ("rest", "u1", 3),
+    ]
 )
 EDGE_TYPE = np.dtype([("mate", "u1"), ("count", "u1"), ("parts", "u1", 8)])
 NUMBERS = np.dtype(
@@ -73,7 +80,11 @@ class Asker:
         for number, child in enumerate(children):
             corners = vertices[child[0]]
             for edge in range(len(corners)):
-                address, back, part = address_of(child[0], (number, parent)), ctypes.c_uint8(), ctypes.c_uint8()
+                address, back, part = (
+                    address_of(child[0], (number, parent)),
+                    ctypes.c_uint8(),
+                    ctypes.c_uint8(),
+                )
                 status = self.library.neighbour(
                     self.handle, address.ctypes.data, edge, ctypes.byref(back), ctypes.byref(part)
                 )
@@ -153,5 +164,7 @@ def rule_of(library: "Library", handle: ctypes.c_void_p) -> Rule:
     glue = [ask.glue_edge(kind) for kind in range(ask.kinds)]
     factor = quotient(ask.ring, ask.side(0, vertices, children[0]), vertices[0][1] - vertices[0][0])
     # (the first half of a whole tile is that of the lesser kind)
-    wholes = [kind for kind, edge in enumerate(glue) if edge < 0 or max(ask.mates(kind, edge), default=kind) >= kind]
+    wholes = [
+        kind for kind, edge in enumerate(glue) if edge < 0 or max(ask.mates(kind, edge), default=kind) >= kind
+    ]
     return Rule(ask.order, factor.tolist(), [Kind(*it) for it in zip(vertices, children, glue)], wholes)

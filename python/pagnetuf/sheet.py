@@ -6,11 +6,12 @@ without gaps or overlaps.
 
 A tile belongs to the first window that it meets: rows from below, each from the left. The engine lists
 exactly the tiles that meet a window. Whether one of them meets an earlier window too is decided by exact
-signs; only tiles at the rim of a window can meet another. So the pieces have together exactly the tiles that meet
-the region, each exactly once. A whole tile counts as its halves do.
+signs; only tiles at the rim of a window can meet another. So the pieces have together exactly the tiles that
+meet the region, each exactly once. A whole tile counts as its halves do.
 
-A vertex belongs to the window in which it lies, and an edge to that in which its middle lies, where a window has its
-left and its lower side and not the others. So the pieces have each vertex of the region exactly once, and each edge.
+A vertex belongs to the window in which it lies, and an edge to that in which its middle lies, where a window
+has its left and its lower side and not the others. So the pieces have each vertex of the region exactly once,
+and each edge.
 
     for piece in Tiling("p3").sheet((2000, 1500), executor=ProcessPoolExecutor()):
         ...  # a Patch
@@ -24,7 +25,19 @@ import math
 from collections import deque
 from contextlib import contextmanager
 from functools import partial
-from typing import TYPE_CHECKING, Any, Callable, Deque, Generator, Iterator, List, NamedTuple, Optional, Sequence, Tuple
+from typing import (
+    TYPE_CHECKING,
+    Any,
+    Callable,
+    Deque,
+    Generator,
+    Iterator,
+    List,
+    NamedTuple,
+    Optional,
+    Sequence,
+    Tuple,
+)
 
 import numpy as np
 
@@ -61,8 +74,8 @@ class Task(NamedTuple):
 
 class Sheet:
     """A region, its windows, and the tiles of each, with their addresses or without. `piece` is the most that
-    a window's `half` may be; `whole` joins halves; `part` and `of` are as for `Tiling.sheet`. ValueError for a region
-    that reaches beyond the points that a window may have as its centre."""
+    a window's `half` may be; `whole` joins halves; `part` and `of` are as for `Tiling.sheet`. ValueError for
+    a region that reaches beyond the points that a window may have as its centre."""
 
     def __init__(
         self,
@@ -96,7 +109,7 @@ class Sheet:
             for along in (self._ups[0], self._ups[-1]):
                 if abs(self.at + right * across + up * along).max() > FARTHEST:
                     raise ValueError(
-                        f"the region reaches beyond coefficients of {FARTHEST}: use a smaller one, or another base"
+                        f"the region reaches beyond coefficients of {FARTHEST}: use a smaller one"
                     )
 
     def __len__(self) -> int:
@@ -109,7 +122,9 @@ class Sheet:
         up, right = np.array(UP[self.machine.rule.order]), np.array(RIGHT)
         middle = self.at + up * self._ups[row]
         places_of = [(middle + right * place).tolist() for place in self._rights]
-        return [Box((a, b, c, d), (wide, self.rows[row])) for (a, b, c, d), wide in zip(places_of, self.columns)]
+        return [
+            Box((a, b, c, d), (wide, self.rows[row])) for (a, b, c, d), wide in zip(places_of, self.columns)
+        ]
 
     def tasks(self) -> Iterator[Task]:
         """For each window of this part what `owned` needs."""
@@ -134,8 +149,8 @@ class Sheet:
 
 
 class Pieces:
-    """The pieces of a sheet, in order, as an iterator with a length. `done` is how many have come; `close`, or leaving
-    a loop, cancels what waits."""
+    """The pieces of a sheet, in order, as an iterator with a length. `done` is how many have come; `close`,
+    or leaving a loop, cancels what waits."""
 
     def __init__(
         self,
@@ -147,7 +162,9 @@ class Pieces:
         progress: bool = False,
     ):
         if not 0 <= start <= len(sheet):
-            raise ValueError(f"start is from 0 to {len(sheet)}, which is how many pieces there are, and not {start}")
+            raise ValueError(
+                f"start is from 0 to {len(sheet)}, which is how many pieces there are, and not {start}"
+            )
         self.sheet, self.done, self.start = sheet, 0, start
         self._found = self._made(executor, max(1, ahead), each)
         self._shown = progress_of(len(sheet) - start, "windows") if progress else None

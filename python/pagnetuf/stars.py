@@ -38,9 +38,9 @@ def stars_of(patch: "Patch") -> Tuple[List[Star], np.ndarray]:
 def _stars_of_degree(
     patch: "Patch", vertices: np.ndarray, first: np.ndarray, onward: np.ndarray, degree: int
 ) -> Dict[int, Star]:
-    """The stars of those of these vertices that have `degree` corners: `first` is one corner of each vertex, and
-    `onward` leads from a corner to the next around its vertex, or to -1 at the rim. Around an inner vertex the
-    corners close up: after `degree` steps, and no earlier, one is back at the first."""
+    """The stars of those of these vertices that have `degree` corners: `first` is one corner of each vertex,
+    and `onward` leads from a corner to the next around its vertex, or to -1 at the rim. Around an inner
+    vertex the corners close up: after `degree` steps, and no earlier, one is back at the first."""
     most = patch.outlines().shape[1]
     rows, closed, now = (
         np.zeros((len(vertices), degree), np.int64),

@@ -21,8 +21,8 @@ def each_stroke(edges: Union[np.ndarray, Sequence[Tuple[int, int]]]) -> Iterator
 
 
 class Graph:
-    """The edges, and further ones that are there only to be left out again: then an even number ends everywhere.
-    Numbers are kept in arrays without objects, since there are millions of them."""
+    """The edges, and further ones that are there only to be left out again: then an even number ends
+    everywhere. Numbers are kept in arrays without objects, since there are millions of them."""
 
     def __init__(self, pairs: np.ndarray):
         names, flat = np.unique(pairs, return_inverse=True)
@@ -43,8 +43,8 @@ class Graph:
         self.parts = np.unique(part, return_index=True)[1].tolist()
 
     def circuit(self, start: int) -> Tuple["array[int]", "array[int]"]:
-        """A closed trail through all edges of a part (C. Hierholzer), backwards: vertices, and the edge that leads
-        on from each."""
+        """A closed trail through all edges of a part (C. Hierholzer), backwards: vertices, and the edge that
+        leads on from each."""
         others, edges, begins, ends, used = self.others, self.edges, self.begins, self.ends, self.used
         names = self.names
         stack, by = array("i", [start]), array("i", [-1])

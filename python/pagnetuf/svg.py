@@ -1,5 +1,5 @@
-"""The parts of SVG that all pictures are made of. Pictures of many tiles are plain texts, so that a file of tens of
-megabytes can be written as it is made."""
+"""The parts of SVG that all pictures are made of. Pictures of many tiles are plain texts, so that a file of
+tens of megabytes can be written as it is made."""
 from typing import Iterable, Sequence
 
 
@@ -16,7 +16,9 @@ def number(value: float, digits: int = 4) -> str:
 
 def attributes(**values: object) -> str:
     """Attributes, each with a blank before it; underscores stand for hyphens, and None leaves one out."""
-    named = ((name.rstrip("_").replace("_", "-"), value) for name, value in values.items() if value is not None)
+    named = (
+        (name.rstrip("_").replace("_", "-"), value) for name, value in values.items() if value is not None
+    )
     return "".join(f' {name}="{escaped(value)}"' for name, value in named)
 
 

@@ -44,7 +44,13 @@ def folds(patch: Patch) -> List[int]:
 
 
 def symmetric_place(
-    tiling: Tiling, fold: int, which: int, radius: float, frame: Frame, at: Point, half: Tuple[int, int] = (40, 34)
+    tiling: Tiling,
+    fold: int,
+    which: int,
+    radius: float,
+    frame: Frame,
+    at: Point,
+    half: Tuple[int, int] = (40, 34),
 ) -> Place:
     """A place that a turn by 1/fold keeps at least so far. `which` counts the kinds of stars that do, from 0,
     by frequency."""

@@ -59,8 +59,8 @@ LINE = re.compile(HALF + rb"(?: \+ " + HALF + rb")?")
 
 
 def parsed_lines(text: bytes) -> Found:
-    """A list of anyone's, as `parsed_listing`; its addresses may have different numbers of digits. ValueError for a
-    line of another form."""
+    """A list of anyone's, as `parsed_listing`; its addresses may have different numbers of digits. ValueError
+    for a line of another form."""
     lines = text.splitlines()
     for number, line in enumerate(lines, 1):
         if not LINE.fullmatch(line):

@@ -64,9 +64,9 @@ class WalkTile(NamedTuple):
 
 
 class Pairing(NamedTuple):
-    """How two tiles lie to each other. `relation` is "same" for one tile, "beside" if they share edges, "apart" if
-    they share none, and "strangers" if they have no common supertile. `edges` are the shared ones: pairs of an edge
-    of the first tile and one of the second."""
+    """How two tiles lie to each other. `relation` is "same" for one tile, "beside" if they share edges,
+    "apart" if they share none, and "strangers" if they have no common supertile. `edges` are the shared ones:
+    pairs of an edge of the first tile and one of the second."""
 
     relation: str
     edges: Tuple[Tuple[int, int], ...] = ()
@@ -86,8 +86,8 @@ class Tiling:
         (760, (419, 4))
 
     The built-in tilings are "chair"; Penrose's kites and darts "p2" and rhombs "p3", and Ammann and Beenker's
-    rhombs and squares "ab", each in halves; and "halfhex". The package has rule files of others, such as "sphinx".
-    `Tiling.from_file` takes any rule file.
+    rhombs and squares "ab", each in halves; and "halfhex". The package has rule files of others, such as
+    "sphinx". `Tiling.from_file` takes any rule file.
 
     An *address* is a text such as "0:1/0,2/0": a tile's kind, and from fine to coarse which child it is of a
     parent of which kind. A *point* is four integers, for a0 + a1 zeta + a2 zeta^2 + a3 zeta^3, where zeta is
@@ -104,8 +104,25 @@ class Tiling:
     non-periodic tilings, 1982; S. Tatham, Combinatorial coordinates for the aperiodic monotile."""
 
     def __init__(self, name: str, engine: Optional[Engine] = None):
-        """A tiling by its name: "chair", "p2", "p3", "ab" or "halfhex", or that of a rule file of the package, such as
-        "sphinx". BadWords for another name, NoEngine. For rule files of your own use `from_file`."""
+        """A tiling by its name.
+
+        For rule files of your own use `from_file`.
+
+        Parameters
+        ----------
+        name : str
+            "chair", "p2", "p3", "ab" or "halfhex", or the name of a rule file of the package, such as
+            "sphinx".
+        engine : Engine, optional
+            Who answers; the library by default.
+
+        Raises
+        ------
+        BadWords
+            No tiling has this name.
+        NoEngine
+            There is no library.
+        """
         asked, path = engine or usual_engine(), places.rule_file(text_of("a name", name))
         if name in BUILT_IN:
             self._hold(asked.machine(name), name)
@@ -113,19 +130,63 @@ class Tiling:
             with open(path, "rb") as file:
                 self._hold(asked.machine_of(file.read()), name)
         else:
-            raise BadWords(f"{name!r} is no tiling: use {', '.join(BUILT_IN)}, the name of a file of {places.rules()}, or "
-                           "Tiling.from_file(PATH)")
+            raise BadWords(
+                f"{name!r} is no tiling: use {', '.join(BUILT_IN)}, the name of a file in {places.rules()}, or "
+                "Tiling.from_file(PATH)"
+            )
 
     @classmethod
     def from_bytes(cls, data: bytes, name: str = "-", engine: Optional[Engine] = None) -> "Tiling":
-        """The tiling of a rule file's bytes. RuleRefused with the first fault; RuleTooLong."""
+        """The tiling of a rule file's bytes.
+
+        Parameters
+        ----------
+        data : bytes
+            The text of the file, in TOML: docs/FORMATS.md has its keys.
+        name : str
+            What it is called.
+        engine : Engine, optional
+            Who answers; the library by default.
+
+        Returns
+        -------
+        Tiling
+            The tiling.
+
+        Raises
+        ------
+        RuleRefused
+            The file has a fault; the fields are the first one.
+        RuleTooLong
+            It has more than 1,048,576 bytes.
+        """
         self = cls.__new__(cls)
         self._hold((engine or usual_engine()).machine_of(data), name)
         return self
 
     @classmethod
     def from_file(cls, path: Any, engine: Optional[Engine] = None) -> "Tiling":
-        """The tiling of a rule file. OSError if it cannot be read; RuleRefused; RuleTooLong."""
+        """The tiling of a rule file.
+
+        Parameters
+        ----------
+        path : path
+            The file.
+        engine : Engine, optional
+            Who answers; the library by default.
+
+        Returns
+        -------
+        Tiling
+            The tiling.
+
+        Raises
+        ------
+        OSError
+            The file cannot be read.
+        RuleRefused, RuleTooLong
+            As for `from_bytes`.
+        """
         with open(path, "rb") as file:
             return cls.from_bytes(file.read(), str(path), engine)
 
@@ -158,31 +219,116 @@ class Tiling:
         return hash(self.machine.key)
 
     def place(self, addr: Address) -> Placed:
-        """Where a tile lies in its supertile. BadAddress, CoordLimit."""
+        """Where a tile lies in its supertile.
+
+        Parameters
+        ----------
+        addr : str or ADDRESS
+            The address of a tile, from fine to coarse, as "2:1/0,0/0", or one entry of an array.
+
+        Returns
+        -------
+        Placed
+            Kind, turn and shift: the motion z -> zeta^turn z + shift takes the prototile there.
+
+        Raises
+        ------
+        BadAddress
+            The address is not one of a tile of this rule.
+        CoordLimit
+            A coefficient is above 2^24.
+
+        Examples
+        --------
+        >>> Tiling("p3").place("2:1/0,0/0")
+        Placed(kind=2, turn=9, shift=(1, 1, 0, 0))
+        """
         return Placed(*self.machine.place(address_of(addr)))
 
     def neighbour(self, addr: Address, edge: int) -> Across:
-        """The tile across an edge, in the same supertile. BadAddress, NoEdge, Outside."""
+        """The tile across an edge, in the same supertile.
+
+        Parameters
+        ----------
+        addr : str or ADDRESS
+            The address of a tile, from fine to coarse, as "2:1/0,0/0", or one entry of an array.
+        edge : int
+            The number of the edge, from 0: edge i runs from corner i to the next.
+
+        Returns
+        -------
+        Across
+            The address of the tile across, and its edge that leads back.
+
+        Raises
+        ------
+        BadAddress
+            The address is not one of a tile of this rule.
+        NoEdge
+            The tile has no such edge.
+        Outside
+            The edge lies on the boundary of the supertile; the fields say where.
+
+        Examples
+        --------
+        >>> Tiling("p3").neighbour("2:1/0,0/0", 2)
+        Across(address='3:1/2,1/0', edge=0)
+        """
         return Across(*self.machine.neighbour(address_of(addr), integer("edge", edge)))
 
     def place_all(self, addresses: Addresses) -> np.ndarray:
-        """`place` for many addresses, given as texts or as an ADDRESS array (n,). Returns a structured array
-        `pagnetuf.TILE` (n,), each entry with its `status`: 0, or the number of a refusal."""
+        """`place` for many addresses.
+
+        Parameters
+        ----------
+        addresses : sequence of str, or ADDRESS array (n,)
+            The tiles.
+
+        Returns
+        -------
+        TILE array (n,)
+            Each entry with its own `status`: 0, or the number of a refusal.
+
+        Raises
+        ------
+        TypeError
+            One text, which is one address and not many.
+        """
         return self.machine.place_all(listed("addresses", addresses))
 
     def neighbour_all(
         self, addresses: Addresses, edges: Sequence[int], out: Optional[np.ndarray] = None
     ) -> Tuple[Addresses, np.ndarray]:
-        """`neighbour` for many addresses. Returns the addresses across, in the form that was given: texts, or
-        an ADDRESS array. Returns with them uint8 (n, 2), edge and status. A refused address is unchanged.
+        """`neighbour` for many addresses.
 
-        With `out`, an ADDRESS array (n,), the addresses across are put there, and it is returned. It may be
-        `addresses` itself, so that many steps of many walks need no copy. Fastest with an ADDRESS array and
-        edges as uint8 (n,). TypeError for edges that aren't whole numbers; ValueError for arrays of different
-        lengths, and for an `out` that can't take the addresses."""
+        Parameters
+        ----------
+        addresses : sequence of str, or ADDRESS array (n,)
+            The tiles.
+        edges : sequence of int, or integer array (n,)
+            The edge of each. Fastest as uint8, with an ADDRESS array.
+        out : ADDRESS array (n,), optional
+            Takes the addresses across, and is returned. It may be `addresses` itself, so that many steps of
+            many walks need no copy.
+
+        Returns
+        -------
+        addresses, numbers
+            The addresses across, in the form that was given; a refused one is unchanged. And uint8 (n, 2):
+            the edge that leads back, and the status, which is 0 or the number of a refusal.
+
+        Raises
+        ------
+        TypeError
+            The edges are no whole numbers.
+        ValueError
+            There are not as many edges as addresses, or `out` cannot take the addresses.
+        """
         addresses, numbers = listed("addresses", addresses), whole_array("edges", edges)
         if numbers.ndim != 1 or len(addresses) != len(numbers):
-            raise ValueError(f"edges has one entry for each of the {len(addresses)} addresses, not {numbers.shape}")
+            raise ValueError(
+                f"edges has one entry for each of the {len(addresses)} addresses, not {numbers.shape}"
+            )
         if out is not None and not is_room(out, len(addresses)):
             raise ValueError(f"out is an ADDRESS array ({len(addresses)},) that can be written, without gaps")
         return self.machine.neighbour_all(addresses, numbers, out)
@@ -199,12 +345,45 @@ class Tiling:
         """Exactly the tiles that meet a window, each exactly once, by shift, turn and kind.
 
         The window is the points whose X = 2 x and Y = y / sin(360°/order) differ from those of the point
-        `at` by less than `half`: it is half[0] lengths wide, and 2 half[1] sin(360°/order) high. `at` has
-        coefficients up to 2^20 in absolute value, `half` two integers from 1 to 4096. In place of `at`, `xy` is a
-        place in lengths: the window is then that around a point of the ring within half a length. Without
-        `addresses` it takes less time, and a quarter of the memory. TooManyTiles above 200,000; CoordLimit far
-        out, where another seed usually helps; DepthLimit; BadAddress; BadWords. TypeError for what isn't a whole
-        number."""
+        `at` by less than `half`: it is half[0] lengths wide, and 2 half[1] sin(360°/order) high.
+
+        Parameters
+        ----------
+        at : 4 int, optional
+            The centre, a point with coefficients up to 2^20 in absolute value; 0 by default.
+        half : 2 int
+            The half-width and half-height, from 1 to 4096.
+        seed : int
+            Which of the tilings with this base: 0 to 2^64 - 1.
+        addr : str or ADDRESS
+            The base tile, which stands on its prototile.
+        addresses : bool
+            Without them it takes less time, and a quarter of the memory.
+        xy : 2 float, optional
+            In place of `at`, a place in lengths: the centre is then a point of the ring within half a length.
+
+        Returns
+        -------
+        Window
+            A patch with the frame and the box.
+
+        Raises
+        ------
+        TooManyTiles
+            More than 200,000 tiles meet the window.
+        CoordLimit
+            Too far out with this seed; another one usually helps.
+        DepthLimit, BadAddress, BadWords
+            See `pagnetuf.refusals`.
+        TypeError
+            A number is not whole.
+
+        Examples
+        --------
+        >>> w = Tiling("p3").window(half=(20, 12))
+        >>> len(w), w.vertices().shape
+        (760, (419, 4))
+        """
         box = Box(self.centre(at, xy), two_integers("half", half))
         return Window(self.machine, frame_of(addr, seed), box, addresses)
 
@@ -218,14 +397,62 @@ class Tiling:
         return a, b, c, d
 
     def star(self, addr: Address, vertex: int, seed: int = 0) -> List[StarTile]:
-        """The tiles around a vertex of a tile, counterclockwise, the tile first, each with its own number
-        for the vertex. BadAddress, NoVertex, DepthLimit, StarTooBig."""
+        """The tiles around a vertex of a tile, counterclockwise, the tile first.
+
+        Parameters
+        ----------
+        addr : str or ADDRESS
+            The address of a tile, from fine to coarse, as "2:1/0,0/0", or one entry of an array.
+        vertex : int
+            The number of the vertex, from 0.
+        seed : int
+            Which of the tilings with this base: 0 to 2^64 - 1.
+
+        Returns
+        -------
+        list of StarTile
+            Each with its motion, its address, and its own number for the vertex.
+
+        Raises
+        ------
+        BadAddress
+            The address is not one of a tile of this rule.
+        NoVertex
+            The tile has no such vertex.
+        DepthLimit, StarTooBig
+            See `pagnetuf.refusals`.
+        """
         found = self.machine.star(frame_of(addr, seed), integer("vertex", vertex))
         return [StarTile(*motion, address, number) for motion, address, number in _told(found)]
 
     def walk(self, addr: Address, path: Sequence[int], seed: int = 0, grow: int = 0) -> List[WalkTile]:
-        """The tiles of a path across edges, the tile first; each with its edge that leads back, None for the
-        first. BadAddress, NoEdge, DepthLimit."""
+        """The tiles of a path across edges, the tile first.
+
+        Parameters
+        ----------
+        addr : str or ADDRESS
+            The address of a tile, from fine to coarse, as "2:1/0,0/0", or one entry of an array.
+        path : sequence of int
+            Up to 1,000 edges, each one of the tile reached.
+        seed : int
+            Which of the tilings with this base: 0 to 2^64 - 1.
+        grow : int
+            The frame first grows to so many levels, so that several walks have addresses of the same depth.
+
+        Returns
+        -------
+        list of WalkTile
+            Each with its edge that leads back, None for the first.
+
+        Raises
+        ------
+        BadAddress
+            The address is not one of a tile of this rule.
+        NoEdge
+            A tile reached has no such edge.
+        DepthLimit
+            See `pagnetuf.refusals`.
+        """
         edges = [integer("each of path", edge) for edge in listed("path", path)]
         found = self.machine.walk(frame_of(addr, seed), edges, integer("grow", grow))
         return [
@@ -234,7 +461,23 @@ class Tiling:
         ]
 
     def pair(self, a: Address, b: Address) -> Pairing:
-        """How two tiles lie to each other, and every edge that they share. BadAddress."""
+        """How two tiles lie to each other, and every edge that they share.
+
+        Parameters
+        ----------
+        a, b : str or ADDRESS
+            The two tiles.
+
+        Returns
+        -------
+        Pairing
+            The relation, and the pairs of shared edges.
+
+        Raises
+        ------
+        BadAddress
+            The address is not one of a tile of this rule.
+        """
         told = self.machine.pair(address_of(a), address_of(b))
         if told in ("same", "none", "apart"):
             return Pairing("strangers" if told == "none" else told)
@@ -242,8 +485,25 @@ class Tiling:
         return Pairing("beside", tuple((int(mine), int(theirs)) for mine, theirs in both))
 
     def common(self, a: Address, b: Address) -> Optional[int]:
-        """The least level from which on two addresses agree, or None. For built-in rules; BadWords for rule
-        files."""
+        """The least level from which on two addresses agree.
+
+        Parameters
+        ----------
+        a, b : str or ADDRESS
+            The two tiles.
+
+        Returns
+        -------
+        int or None
+            The level; None if they agree nowhere.
+
+        Raises
+        ------
+        BadAddress
+            The address is not one of a tile of this rule.
+        BadWords
+            The rule is that of a file, and no built-in one.
+        """
         return self.machine.common(address_of(a), address_of(b))
 
     def locate(
@@ -253,12 +513,30 @@ class Tiling:
         addr: Address = "0:",
         xy: Optional[Iterable[float]] = None,
     ) -> Patch:
-        """The tiles of a frame that hold a point: one if the point is inside a tile, two or more if it is
-        on an edge or a vertex.
+        """The tiles of a frame that hold a point.
 
-        `point` is four integers, and each tile near it is tested by exact signs. `xy` is a place in lengths
-        instead, tested with floats: a tile holds it if it lies less than 1e-9 lengths outside. TypeError for a
-        point that isn't four whole numbers."""
+        Parameters
+        ----------
+        point : 4 int, optional
+            A point, tested by exact signs.
+        seed : int
+            Which of the tilings with this base: 0 to 2^64 - 1.
+        addr : str or ADDRESS
+            The base tile, which stands on its prototile.
+        xy : 2 float, optional
+            A place in lengths instead, tested with floats: a tile holds it if it lies less than 1e-9 lengths
+            outside.
+
+        Returns
+        -------
+        Patch
+            One tile if the point is inside it, two or more if it is on an edge or a vertex.
+
+        Raises
+        ------
+        TypeError
+            The point is not four whole numbers.
+        """
         from .inside import around, holding
 
         if point is None and xy is None:
@@ -277,9 +555,27 @@ class Tiling:
         seed: int = 0,
         addr: Address = "0:",
     ) -> int:
-        """The number of tiles of a right listing of a window: a text in the form of `Window.listing`, or a
-        patch of tiles, in any order. BadListing: its fields are the fault, and the line of a text or the
-        tile of a patch, counted from 1. A text of a rule file is BadWords."""
+        """The number of tiles of a right list of a window.
+
+        Parameters
+        ----------
+        listing : str, bytes or Patch
+            A text in the form of `Window.listing`, or tiles in any order.
+        at, half, seed, addr
+            The window, as for `window`.
+
+        Returns
+        -------
+        int
+            How many tiles it has.
+
+        Raises
+        ------
+        BadListing
+            Its fields are the fault, and the line of a text or the tile of a patch, counted from 1.
+        BadWords
+            A text of a rule file; a patch of one is taken.
+        """
         frame, box = frame_of(addr, seed), Box(four_integers("at", at), two_integers("half", half))
         if isinstance(listing, Patch):
             return self.machine.verify_tiles(frame, box, Found(listing.tiles, listing.addresses))
@@ -306,24 +602,55 @@ class Tiling:
         start: int = 0,
         progress: bool = False,
     ) -> Pieces:
-        """The tiles that meet a region of any size, in pieces, each tile in exactly one: see
-        `pagnetuf.sheet`. Yields a Patch for each piece; `len` is how many there are.
+        """The tiles that meet a region of any size, in pieces, each tile in exactly one.
 
-        With of="vertices" a piece is the vertices that lie in it, int64 (V, 4), each in exactly one piece. With
-        of="edges" it is the edges whose middles lie in it, as the points of their ends, int64 (E, 2, 4).
+        See `pagnetuf.sheet`. A piece that fails says its number.
 
-        With `each`, a function of a piece, yields what it returns for each piece instead. An executor calls
-        it where it computes the piece, so that the tiles themselves need not be sent. `addresses`, `at` and `xy` are
-        as for `window`. With an executor, at most `ahead` pieces are under way: at least twice its processors. With
-        `progress`, a terminal shows how far it is. Leaving the loop cancels what waits.
+        Parameters
+        ----------
+        half : 2 int
+            The half-width and half-height of the region.
+        at, xy, seed, addr, addresses
+            As for `window`.
+        executor : Executor, optional
+            Any of concurrent.futures, or that of Dask, computes the pieces; they come in order.
+        piece : 2 int, optional
+            The most that the half-width and half-height of a window may be.
+        whole : bool
+            Whether halves are joined to whole tiles.
+        each : callable, optional
+            A function of a piece. What it returns comes in place of the piece; an executor calls it where it
+            computes the piece, so that the tiles themselves need not be sent.
+        ahead : int
+            At most so many pieces are under way: at least twice the processors.
+        part : 2 int
+            With (i, n), only the rows i, i + n, i + 2 n, .. from below, so that n machines can share a
+            region.
+        of : {"tiles", "vertices", "edges"}
+            With "vertices" a piece is the vertices that lie in it, int64 (V, 4), each in exactly one piece.
+            With "edges" it is the edges whose middles lie in it, as the points of their ends, int64 (E, 2,
+            4).
+        start : int
+            The number of the first piece, where an earlier run ended.
+        progress : bool
+            Whether a terminal shows how far it is.
 
-        With part=(i, n), only the pieces of the rows i, i + n, i + 2 n, .. from below, so that n machines can
-        share a region: together they have each tile exactly once. A piece that fails says its number, and `start`
-        begins with that. ValueError unless 0 <= i < n, and for a region beyond the reach of windows."""
+        Returns
+        -------
+        Pieces
+            An iterator with a length. Leaving the loop cancels what waits.
+
+        Raises
+        ------
+        ValueError
+            The region reaches beyond the centres that windows may have; `part` or `start` is out of range.
+        """
         pieces_of = None if piece is None else two_integers("piece", piece)
         region, parts = two_integers("half", half), two_integers("part", part)
         kind = one_of("of", of, ("tiles", "vertices", "edges"))
-        sheet = Sheet(self, region, self.centre(at, xy), frame_of(addr, seed), pieces_of, whole, addresses, parts, kind)
+        sheet = Sheet(
+            self, region, self.centre(at, xy), frame_of(addr, seed), pieces_of, whole, addresses, parts, kind
+        )
         return sheet.pieces(executor, integer("ahead", ahead), each, integer("start", start), progress)
 
 
@@ -345,7 +672,7 @@ class Window(Patch):
         return Window, (self.machine, self.frame, self.box, self._addresses is not None, found)
 
     def whole(self) -> WholePatch:
-        """The whole tiles of the window's tiles, by the program's `glue=yes`. Halves are joined, also with
+        """The whole tiles of the window's tiles, by the engine's `glue=yes`: halves are joined, also with
         halves outside the window. If the rule glues none, these are the tiles themselves."""
         found = self.machine.cover(self.frame, self.box, True, self._addresses is not None)
         return whole_patch(self.rule, found.tiles, found.addresses, found.whole)
@@ -365,13 +692,14 @@ def call(words: Sequence[str], input: bytes = b"", engine: Optional[Engine] = No
         >>> call(["place", "rule=p3", "addr=2:1/0,0/0"])
         b'2 9 1,1,0,0\\n'
 
-    docs/FORMATS.md has the words. A refusal of the command is raised by its name, with its fields. NoEngine."""
+    docs/FORMATS.md has the words. A refusal of the command is raised by its name, with its fields. NoEngine.
+    """
     return (engine or usual_engine()).call(words, input)
 
 
 def rule_file(name: str) -> str:
-    """The path of the rule file that belongs to the package under a name, such as "sphinx". ValueError for another
-    name."""
+    """The path of the rule file that belongs to the package under a name, such as "sphinx". ValueError for
+    another name."""
     found = places.rule_file(text_of("a name", name))
     if not found:
         raise ValueError(f"there is no rule file {name!r} in {places.rules()}")

@@ -1,5 +1,5 @@
-"""Where the tests find the library and the program: as the package does. A test is skipped where there is none, or
-fails if PAGNETUF_NO_SKIP is set."""
+"""Where the tests find the library and the program: as the package does. A test is skipped where there is
+none, or fails if PAGNETUF_NO_SKIP is set."""
 import glob
 import os
 import re

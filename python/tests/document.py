@@ -3,7 +3,9 @@ import doctest
 import re
 import sys
 
-COMMAND = r"^(?:    \$ |    |\| (?:.*\| )?`)((?:python3 -m )?pagnetuf (?:board|poster|explore|atlas)\b[^`\n]*)"
+COMMAND = (
+    r"^(?:    \$ |    |\| (?:.*\| )?`)((?:python3 -m )?pagnetuf (?:board|poster|explore|atlas)\b[^`\n]*)"
+)
 
 
 def text_of(path):

@@ -123,7 +123,12 @@ def test_chosen_tiles(tiling, whole):
         assert (some.outlines() == patch.outlines()[1::3]).all()
     assert len(patch.chosen([])) == 0 == len(patch.chosen(np.array([])))
     assert patch.chosen(-1).address_texts() == [patch.address(len(patch) - 1)]
-    for wrong, error in (([0.5], TypeError), ([len(patch)], IndexError), ([True], IndexError), ([[0]], TypeError)):
+    for wrong, error in (
+        ([0.5], TypeError),
+        ([len(patch)], IndexError),
+        ([True], IndexError),
+        ([[0]], TypeError),
+    ):
         with pytest.raises(error):
             patch.chosen(wrong)
 
@@ -143,7 +148,11 @@ def test_a_star_import_brings_no_module():
         assert not isinstance(getattr(pagnetuf, name), types.ModuleType), name
     assert {"Sheet", "symmetric_place", "strokes", "Tiling", "Patch"} <= set(pagnetuf.__all__)
     public = {name for name, value in vars(pagnetuf).items() if not name.startswith("_")}
-    left = {name for name in public - set(pagnetuf.__all__) if not isinstance(getattr(pagnetuf, name), types.ModuleType)}
+    left = {
+        name
+        for name in public - set(pagnetuf.__all__)
+        if not isinstance(getattr(pagnetuf, name), types.ModuleType)
+    }
     assert not left
 
 

@@ -36,13 +36,16 @@ def test_shares_are_those_of_the_literature(tiling):
 
 
 def test_shares_settle_where_the_matrix_permutes(tiling):
-    """Rudin-Shapiro's squares: the matrix has eigenvalues of one size, and yet the shares have one limit, each kind's
-    own share of the deep supertiles on average."""
+    """Rudin-Shapiro's squares: the matrix has eigenvalues of one size, and yet the shares have one limit,
+    each kind's own share of the deep supertiles on average."""
     rule = tiling("rudin_shapiro_squares.toml").rule
     count, total = np.zeros(len(rule.kinds)), np.zeros(len(rule.kinds))
     count[0] = 1
     for depth in range(60):
-        count = sum(size * np.bincount(kind.children[:, 0], minlength=len(count)) for size, kind in zip(count, rule.kinds))
+        count = sum(
+            size * np.bincount(kind.children[:, 0], minlength=len(count))
+            for size, kind in zip(count, rule.kinds)
+        )
         count = count / count.sum()
         total += count if depth >= 20 else 0
     assert np.allclose(shares(rule), total / total.sum(), atol=1e-6)

@@ -53,7 +53,9 @@ def test_a_file_that_cannot_be_written(pagnetuf, tmp_path, name):
 )
 def test_an_output_that_takes_nothing(library, name, end, cause):
     line = f'exec "{sys.executable}" -m pagnetuf {name} p3 {end}'
-    ran = subprocess.run(["sh", "-c", line], stderr=subprocess.PIPE, text=True, check=False, env=environment_of())
+    ran = subprocess.run(
+        ["sh", "-c", line], stderr=subprocess.PIPE, text=True, check=False, env=environment_of()
+    )
     assert ran.returncode == 1 and cause in ran.stderr.splitlines()[-1] and "Traceback" not in ran.stderr
 
 
@@ -187,9 +189,20 @@ def board_of_csv(folder):
             return [value("", it) for it in text.split()]
         if "/" in text and name != "address":
             return [int(it) for it in text.split("/")]
-        return None if text == "-" else float(text) if name in "xy" and name else text if name == "address" else int(text)
+        return (
+            None
+            if text == "-"
+            else float(text)
+            if name in "xy" and name
+            else text
+            if name == "address"
+            else int(text)
+        )
 
-    rows = {name: [{key: value(key, it) for key, it in row.items()} for row in table] for name, table in read.items()}
+    rows = {
+        name: [{key: value(key, it) for key, it in row.items()} for row in table]
+        for name, table in read.items()
+    }
     return {**board, **rows}
 
 
@@ -199,7 +212,11 @@ def board_of_arrays(path):
     board = json.loads(str(found["head"]))
 
     def cut(name, lengths, ending=None):
-        return [part.tolist() for part in np.split(found[name], np.cumsum(found[lengths])[:-1])] if len(found[lengths]) else []
+        return (
+            [part.tolist() for part in np.split(found[name], np.cumsum(found[lengths])[:-1])]
+            if len(found[lengths])
+            else []
+        )
 
     def known(numbers):
         return [None if it < 0 else it for it in numbers]
@@ -208,7 +225,12 @@ def board_of_arrays(path):
     columns = [found[name].tolist() for name in ("corners", "neighbours", "backs")]
     named = ("kind", "turn", "shift", "address", "corners", "neighbours", "backs")
     tiles = [
-        dict(zip(("id", *named), (i, kind, turn, shift, address, *(known(part[i][: counts[i]]) for part in columns))))
+        dict(
+            zip(
+                ("id", *named),
+                (i, kind, turn, shift, address, *(known(part[i][: counts[i]]) for part in columns)),
+            )
+        )
         for i, (kind, turn, shift, address) in enumerate(
             zip(*(found[name].tolist() for name in ("kinds", "turns", "shifts", "addresses")))
         )
@@ -235,7 +257,10 @@ def test_json_csv_and_arrays_hold_the_same(pagnetuf, tmp_path, words):
     assert pagnetuf("board", *words, "--to", "npz", "--out", tmp_path / "b.npz")[0] == 0
     assert board_of_csv(tmp_path) == board == board_of_arrays(tmp_path / "b.npz")
     names = sorted(os.listdir(tmp_path))
-    assert names == ["b.npz", *(f"b_{name}.csv" for name in ("board", "edges", "rim", "stars", "tiles", "vertices"))]
+    assert names == [
+        "b.npz",
+        *(f"b_{name}.csv" for name in ("board", "edges", "rim", "stars", "tiles", "vertices")),
+    ]
 
 
 @pytest.mark.parametrize("words", BOARDS)
@@ -245,7 +270,9 @@ def test_a_board_is_the_patch(pagnetuf, tmp_path, words):
     pagnetuf("board", *words, "--to", "npz", "--out", tmp_path / "b.npz")
     patch = Patch.from_npz(tmp_path / "b.npz")
     names, numbers = patch.star_labels()
-    assert [[tuple(pair) for pair in star["tiles"]] for star in board["stars"]] == [list(star) for star in names]
+    assert [[tuple(pair) for pair in star["tiles"]] for star in board["stars"]] == [
+        list(star) for star in names
+    ]
     assert [-1 if it["star"] is None else it["star"] for it in board["vertices"]] == numbers.tolist()
     assert np.allclose([[it["x"], it["y"]] for it in board["vertices"]], patch.rule.ring.xy(patch.vertices()))
     assert [it["exact"] for it in board["vertices"]] == patch.vertices().tolist()
@@ -264,7 +291,11 @@ def test_a_board_is_the_patch(pagnetuf, tmp_path, words):
         assert a < b
         both = [sides.get(side, (None, None)) for side in ((a, b), (b, a))]
         assert [edge["tiles"], edge["numbers"]] == [list(it) for it in zip(*both)]
-    rim = {step for loop in board["rim"] for step in zip(loop["vertices"], loop["vertices"][1:] + loop["vertices"][:1])}
+    rim = {
+        step
+        for loop in board["rim"]
+        for step in zip(loop["vertices"], loop["vertices"][1:] + loop["vertices"][:1])
+    }
     assert rim == {side for side in sides if side[::-1] not in sides}
 
 

@@ -24,7 +24,12 @@ def test_an_example(library, tmp_path, name):
     pytest.importorskip(NEEDS.get(name, "scipy"))
     path = os.path.join(FOLDER, f"{name}.py")
     ran = subprocess.run(
-        [sys.executable, path], cwd=tmp_path, env=environment_of(), capture_output=True, text=True, check=False
+        [sys.executable, path],
+        cwd=tmp_path,
+        env=environment_of(),
+        capture_output=True,
+        text=True,
+        check=False,
     )
     assert ran.returncode == 0, ran.stderr
     assert re.search(SAYS.get(name, ""), ran.stdout)

@@ -27,12 +27,26 @@ def test_a_patch_is_a_sequence_of_tiles(patches):
     for patch in patches:
         tiles = list(patch)
         assert len(tiles) == len(patch) and all(isinstance(it, Tile) for it in tiles)
-        rows = zip(patch.kinds.tolist(), patch.turns.tolist(), map(tuple, patch.shifts.tolist()), patch.address_texts())
-        assert tiles == list(rows) and patch[0] == tiles[0] and patch[-1] == tiles[-1] == patch[np.int64(len(patch) - 1)]
+        rows = zip(
+            patch.kinds.tolist(),
+            patch.turns.tolist(),
+            map(tuple, patch.shifts.tolist()),
+            patch.address_texts(),
+        )
+        assert (
+            tiles == list(rows)
+            and patch[0] == tiles[0]
+            and patch[-1] == tiles[-1] == patch[np.int64(len(patch) - 1)]
+        )
         for some in (slice(2, 9, 3), [2, 5, 8], np.arange(len(patch)) % 3 == 2, np.array([1])):
             wanted = np.arange(len(patch))[some].tolist()
             assert list(patch[some]) == [tiles[i] for i in wanted] and isinstance(patch[some], Patch)
-        for wrong, error in ((len(patch), IndexError), (-len(patch) - 1, IndexError), (0.5, TypeError), ("0", TypeError)):
+        for wrong, error in (
+            (len(patch), IndexError),
+            (-len(patch) - 1, IndexError),
+            (0.5, TypeError),
+            ("0", TypeError),
+        ):
             with pytest.raises(error):
                 patch[wrong]
     bare = patches[0].rule
@@ -67,8 +81,8 @@ def test_area_and_bounds(patches):
 
 
 def test_the_rim(patches):
-    """Its lines are the edges with one tile, with the tiles to their left: the area that they enclose is that of the
-    tiles."""
+    """Its lines are the edges with one tile, with the tiles to their left: the area that they enclose is that
+    of the tiles."""
     for patch in patches:
         points, steps, total = patch.points(), set(), 0
         for loop in patch.rim():
@@ -77,7 +91,11 @@ def test_the_rim(patches):
             (x, y), (u, v) = points[loop].T, points[after].T
             total += (x @ v - y @ u) / 2
         ends, sides = patch.edges(), patch.sides()
-        wanted = {(a, b) if left >= 0 else (b, a) for (a, b), (left, right, *_) in zip(ends.tolist(), sides.tolist()) if min(left, right) < 0}
+        wanted = {
+            (a, b) if left >= 0 else (b, a)
+            for (a, b), (left, right, *_) in zip(ends.tolist(), sides.tolist())
+            if min(left, right) < 0
+        }
         assert steps == wanted and total == pytest.approx(patch.area)
         assert len(patch.vertices()) - len(patch.edges()) + len(patch) == 2 - len(patch.rim())
 
@@ -118,7 +136,9 @@ def test_a_plot(patches):
         for path, corners in zip(drawn.get_paths(), patch.polygons()):
             assert np.allclose(path.vertices[: len(corners)], corners)
         figure, other = pyplot.subplots()
-        assert patch.plot(other, by="neighbours", colours=["red", "gold", "navy", "teal"], linewidths=0) is other
+        assert (
+            patch.plot(other, by="neighbours", colours=["red", "gold", "navy", "teal"], linewidths=0) is other
+        )
         colours = other.collections[0].get_facecolors()
         assert all((colours[a] != colours[b]).any() for a, b, *_ in patch.adjacency().tolist())
         figure.savefig(io.BytesIO(), format="png")
@@ -128,7 +148,11 @@ def test_a_plot(patches):
 def test_pictures(patches):
     """A corner of the picture is that of the tile, y downwards, and no number is -0."""
     for patch in patches:
-        for words in ({}, {"by": "turn"}, {"by": "neighbours", "colours": ["red", "blue", "#fff", "#123456"]}):
+        for words in (
+            {},
+            {"by": "turn"},
+            {"by": "neighbours", "colours": ["red", "blue", "#fff", "#123456"]},
+        ):
             text = patch.to_svg(**words)
             assert "-0," not in text.replace("-0.", "") and "-0 " not in text.replace("-0.", "")
             drawn = list(ElementTree.fromstring(text).iter(SVG + "polygon"))
@@ -155,10 +179,16 @@ def test_graphs(patches):
         for a, b, data in graph.edges(data=True):
             low, high = sorted((a, b))
             for mine, theirs in (map(int, pair.split("/")) for pair in data["edges"].split()):
-                assert near[low, mine] == high and near[high, theirs] == low and patch.backs()[low, mine] == theirs
+                assert (
+                    near[low, mine] == high
+                    and near[high, theirs] == low
+                    and patch.backs()[low, mine] == theirs
+                )
         for tile, data in graph.nodes(data=True):
             assert (data["kind"], data["turn"], data["address"]) == (
-                patch.kinds[tile], patch.turns[tile], patch.address(tile)
+                patch.kinds[tile],
+                patch.turns[tile],
+                patch.address(tile),
             )
             assert np.allclose(graph.pos[tile], patch.middles()[tile])
         vertices = patch.to_networkx("vertices")
@@ -185,7 +215,9 @@ def test_matrices(patches):
             assert set(np.flatnonzero(matrix[tile]).tolist()) == {other for other in row if other >= 0}
         assert set(np.unique(matrix)) <= {0.0, 1.0}
         matrix = patch.adjacency_matrix("vertices").toarray()
-        assert {tuple(it) for it in np.argwhere(np.triu(matrix)).tolist()} == set(map(tuple, patch.edges().tolist()))
+        assert {tuple(it) for it in np.argwhere(np.triu(matrix)).tolist()} == set(
+            map(tuple, patch.edges().tolist())
+        )
         assert (matrix == matrix.T).all() and not matrix.diagonal().any()
 
 
@@ -193,9 +225,18 @@ def test_tables(patches):
     pytest.importorskip("pandas")
     for patch in patches:
         tiles, vertices, edges = (patch.to_frame(kind) for kind in ("tiles", "vertices", "edges"))
-        assert (len(tiles), len(vertices), len(edges)) == (len(patch), len(patch.vertices()), len(patch.edges()))
-        assert tiles["address"].tolist() == patch.address_texts() and tiles["turn"].tolist() == patch.turns.tolist()
-        assert np.allclose(vertices[["x", "y"]], patch.points()) and np.allclose(tiles[["x", "y"]], patch.middles())
+        assert (len(tiles), len(vertices), len(edges)) == (
+            len(patch),
+            len(patch.vertices()),
+            len(patch.edges()),
+        )
+        assert (
+            tiles["address"].tolist() == patch.address_texts()
+            and tiles["turn"].tolist() == patch.turns.tolist()
+        )
+        assert np.allclose(vertices[["x", "y"]], patch.points()) and np.allclose(
+            tiles[["x", "y"]], patch.middles()
+        )
         assert vertices[["a0", "a1", "a2", "a3"]].values.tolist() == patch.vertices().tolist()
         assert edges[["left", "right", "left_edge", "right_edge"]].values.tolist() == patch.sides().tolist()
         with pytest.raises(ValueError, match="kind is one of"):
@@ -205,7 +246,11 @@ def test_tables(patches):
 def test_a_library_that_is_missing_is_named(patches, monkeypatch):
     import sys
 
-    for module, call in (("networkx", "to_networkx"), ("pandas", "to_frame"), ("matplotlib.collections", "plot")):
+    for module, call in (
+        ("networkx", "to_networkx"),
+        ("pandas", "to_frame"),
+        ("matplotlib.collections", "plot"),
+    ):
         monkeypatch.setitem(sys.modules, module, None)
         with pytest.raises(ImportError, match=f"needs {module.partition('.')[0]}: pip install"):
             getattr(patches[0], call)()
@@ -231,21 +276,35 @@ def test_lists(tiling):
         window = t.window(half=(6, 5), seed=4)
         for whole, patch in ((False, window), (True, window.whole())):
             again = Patch.from_listing(t, window.listing(whole))
-            assert again.tiles.tobytes() == patch.tiles.tobytes() and again.address_texts() == patch.address_texts()
+            assert (
+                again.tiles.tobytes() == patch.tiles.tobytes()
+                and again.address_texts() == patch.address_texts()
+            )
             assert (again.outlines() == patch.outlines()).all()
     t = tiling("chair")
     mixed = "0 0 0,0,0,0 0:3/0\n0 1 3,1,0,0 0:\n"
     assert [it.address for it in Patch.from_listing(t, mixed)] == ["0:3/0", "0:"]
-    assert t.verify(Patch.from_listing(t, t.window((1, 1, 0, 0), (2, 1), 42).listing()), (1, 1, 0, 0), (2, 1), 42) > 0
-    for wrong in ("0 0 0,0,0 0:\n", "0 4 0,0,0,0 0:\n", "1 0 0,0,0,0 1:\n", "0 0 0,0,0,0 x\n", "0 0 0,0,0,0 0:300/0\n"):
+    assert (
+        t.verify(
+            Patch.from_listing(t, t.window((1, 1, 0, 0), (2, 1), 42).listing()), (1, 1, 0, 0), (2, 1), 42
+        )
+        > 0
+    )
+    for wrong in (
+        "0 0 0,0,0 0:\n",
+        "0 4 0,0,0,0 0:\n",
+        "1 0 0,0,0,0 1:\n",
+        "0 0 0,0,0,0 x\n",
+        "0 0 0,0,0,0 0:300/0\n",
+    ):
         with pytest.raises(ValueError):
             Patch.from_listing(t, wrong)
 
 
 @pytest.mark.parametrize("name", ["p3", "p2", "ab", "chair", "sphinx.toml", "penrose_p1.toml"])
 def test_a_proper_colouring(tiling, name):
-    """No two neighbours are alike; three colours for rhombs (Sibley and Wagon 2000) and for kites and darts (Babilon
-    2001), four for any."""
+    """No two neighbours are alike; three colours for rhombs (Sibley and Wagon 2000) and for kites and darts
+    (Babilon 2001), four for any."""
     from pagnetuf.colouring import proper_colouring
 
     patch = tiling(name).window(half=(34, 30), seed=1).whole()
@@ -254,7 +313,9 @@ def test_a_proper_colouring(tiling, name):
     assert (colours[a] != colours[b]).all() and colours.max() + 1 == count == len(np.unique(colours))
     assert count <= (3 if name in ("p3", "p2", "ab") else 4)
     assert (proper_colouring(patch.neighbours())[0] == colours).all()
-    assert proper_colouring(patch[:1].neighbours())[1] == 1 and proper_colouring(patch[[]].neighbours())[1] == 0
+    assert (
+        proper_colouring(patch[:1].neighbours())[1] == 1 and proper_colouring(patch[[]].neighbours())[1] == 0
+    )
 
 
 def test_the_structure_factor(tiling):

@@ -158,7 +158,8 @@ def test_dxf_has_the_same_lines(pagnetuf, tmp_path):
 
 
 def test_dxf_as_ezdxf_reads_it(pagnetuf, tmp_path):
-    """No fault and no fix; the layers are in their table, the frame is closed, and the lines are the page's."""
+    """No fault and no fix; the layers are in their table, the frame is closed, and the lines are the
+    page's."""
     ezdxf = pytest.importorskip("ezdxf")
     from ezdxf import recover
 
@@ -352,7 +353,18 @@ def test_the_tiles_of_a_page_are_those_of_a_window(tiling):
 @pytest.mark.parametrize("rule, most", [("p3", 3), ("p2", 3), ("chair", 4), ("sphinx", 4)])
 def test_no_neighbours_are_alike(pagnetuf, rule, most):
     """On the whole page, across the seams of windows too; and the same call gives the same colours."""
-    words = ("poster", rule, "--size", "500,400", "--by", "neighbours", "--line", "0", "--colours", "red,gold,navy,teal")
+    words = (
+        "poster",
+        rule,
+        "--size",
+        "500,400",
+        "--by",
+        "neighbours",
+        "--line",
+        "0",
+        "--colours",
+        "red,gold,navy,teal",
+    )
     _, text, err = pagnetuf(*words)
     assert pagnetuf(*words)[1] == text
     sides, count = {}, 0
@@ -383,7 +395,10 @@ def test_colours_that_keep_the_star(pagnetuf, by):
     """A turn by 72° about the centre takes each tile to one of the same layer."""
     words = ("--size", "300,300", "--star", "5", "--by", by, "--line", "0", "--colours", "red,gold,navy,teal")
     _, text, _ = pagnetuf("poster", "p3", *words)
-    spots = {name: np.array([np.mean(loop, 0) for loop in paths_of(group)]) for name, group in layers(text)[1].items()}
+    spots = {
+        name: np.array([np.mean(loop, 0) for loop in paths_of(group)])
+        for name, group in layers(text)[1].items()
+    }
     spots = {name: it - (150, 150) for name, it in spots.items() if len(it)}
     angle, tried = 2 * np.pi / 5, 0
     for name, here in spots.items():
@@ -396,7 +411,10 @@ def test_colours_that_keep_the_star(pagnetuf, by):
 
 def test_notes_about_colours(pagnetuf):
     for words, told in (
-        (("p3", "--colours", "red,gold,navy,teal"), "2 of 4 colours are used: by kind this page has 2 layers; try --by turn"),
+        (
+            ("p3", "--colours", "red,gold,navy,teal"),
+            "2 of 4 colours are used: by kind this page has 2 layers; try --by turn",
+        ),
         (("penrose_p1", "--colours", "red,gold"), "colours repeat"),
         (("p3", "--colours", "red,gold"), None),
         (("p3",), None),
@@ -418,7 +436,11 @@ def test_the_rarest_star_at_a_corner(tiling):
     shares = [patch.stars()[name] for name in names]
     for tile in np.flatnonzero(poster.within(patch, page)).tolist():
         stars = [labels[v] for v in patch.corners()[tile, : patch.counts[tile]] if labels[v] >= 0]
-        assert stars and found.of[tile] == max(stars) and shares[found.of[tile]] == min(shares[it] for it in stars)
+        assert (
+            stars
+            and found.of[tile] == max(stars)
+            and shares[found.of[tile]] == min(shares[it] for it in stars)
+        )
 
 
 @pytest.mark.parametrize("rule, fold", [("p3", 5), ("ab", 8)])

@@ -76,10 +76,14 @@ def test_signs_of_the_nearest_numbers(order, q):
 
 
 @QUICK
-@given(some.integers(1, 62), some.lists(some.lists(some.integers(-9, 9), min_size=4, max_size=4), max_size=30))
+@given(
+    some.integers(1, 62), some.lists(some.lists(some.integers(-9, 9), min_size=4, max_size=4), max_size=30)
+)
 def test_points_are_found_again(shift, rows):
     """Also where their coefficients are far apart."""
-    points = np.array([[*row[:3], row[3] << shift - 4 if shift > 4 else row[3]] for row in rows], np.int64).reshape(-1, 4)
+    points = np.array(
+        [[*row[:3], row[3] << shift - 4 if shift > 4 else row[3]] for row in rows], np.int64
+    ).reshape(-1, 4)
     unique, numbers = unique_points(points)
     assert (unique[numbers] == points).all() and len({tuple(it) for it in points.tolist()}) == len(unique)
     far = np.concatenate([points, points * (1 << 14) + (1 << 17)])
@@ -97,14 +101,18 @@ def test_points_are_found_again(shift, rows):
     some.integers(0, (1 << 64) - 1),
 )
 def test_windows(tiling, name, x, y, half, seed):
-    """A window is the tiles of a larger one that meet it; its tiles are a disc, cover its box, and overlap nowhere."""
+    """A window is the tiles of a larger one that meet it; its tiles are a disc, cover its box, and overlap
+    nowhere."""
     t = tiling(name)
     at = t.ring.near(x, y).tolist()
     try:
         window, larger = t.window(at, half, seed), t.window(at, (half[0] + 3, half[1] + 2), seed)
     except (CoordLimit, DepthLimit, BadWords):
         return
-    rows = {tuple(it) for it in zip(larger.kinds.tolist(), larger.turns.tolist(), map(tuple, larger.shifts.tolist()))}
+    rows = {
+        tuple(it)
+        for it in zip(larger.kinds.tolist(), larger.turns.tolist(), map(tuple, larger.shifts.tolist()))
+    }
     mine = list(zip(window.kinds.tolist(), window.turns.tolist(), map(tuple, window.shifts.tolist())))
     assert set(mine) <= rows and len(set(mine)) == len(mine)
     assert len(window.vertices()) - len(window.edges()) + len(window) == 1 and len(window.rim()) == 1

@@ -5,7 +5,17 @@ import re
 
 import pytest
 from conftest import TOP
-from pagnetuf import BadAddress, BadListing, BadWords, NoEdge, NoMemory, NoVertex, Outside, Refusal, RuleRefused
+from pagnetuf import (
+    BadAddress,
+    BadListing,
+    BadWords,
+    NoEdge,
+    NoMemory,
+    NoVertex,
+    Outside,
+    Refusal,
+    RuleRefused,
+)
 from pagnetuf.refusals import BY_NAME, refusal_of
 
 KINDS = {

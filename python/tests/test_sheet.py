@@ -179,7 +179,12 @@ def test_what_is_inside_reaches_nowhere_out(tiling):
 
 def test_far_out_in_a_pool(tiling):
     """Nothing is cut off on the way between processes."""
-    t, words = tiling("chair"), {"half": (30, 30), "at": (1_000_000, -1_000_000, 0, 0), "piece": (20, 20), "seed": 3}
+    t, words = tiling("chair"), {
+        "half": (30, 30),
+        "at": (1_000_000, -1_000_000, 0, 0),
+        "piece": (20, 20),
+        "seed": 3,
+    }
     alone = [it.tiles.tobytes() for it in t.sheet(**words)]
     with ProcessPoolExecutor(2) as executor:
         assert [it.tiles.tobytes() for it in t.sheet(**words, executor=executor)] == alone
@@ -273,7 +278,11 @@ def test_stopping_cancels_what_waits(tiling):
 
 
 def test_a_region_beyond_reach_is_refused_at_the_call(tiling):
-    for half, at in (((1 << 22, 10), (0, 0, 0, 0)), ((10, 1 << 22), (0, 0, 0, 0)), ((4000, 10), ((1 << 20) - 10, 0, 0, 0))):
+    for half, at in (
+        ((1 << 22, 10), (0, 0, 0, 0)),
+        ((10, 1 << 22), (0, 0, 0, 0)),
+        ((4000, 10), ((1 << 20) - 10, 0, 0, 0)),
+    ):
         with pytest.raises(ValueError, match="beyond"):
             tiling("p3").sheet(half, at)
     assert len(tiling("p3").sheet((10, 10), (1 << 20, 0, 0, 0))) == 1

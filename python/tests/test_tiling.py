@@ -67,7 +67,8 @@ def test_the_numbers_of_a_rule_are_those_of_its_file(tiling, name):
         assert kind.glue_edge == (edges[0] if edges else -1)
         types.append(entry["edges"][edges[0]] if edges else None)
     assert len(rule.kinds) == len(document["kind"]) and rule.glue == bool(glue)
-    # (whole tiles: those that are no halves, and those of first halves, whose mate has the same kind or a later one)
+    # (whole tiles: those that are no halves, and those of first halves, whose mate has the same kind or a
+    # later one)
     assert rule.whole_kinds == [i for i, it in enumerate(types) if it is None or mates[it] in types[i:]]
     assert rule.from_text(rule.to_text()).to_text() == rule.to_text()
 

@@ -1,5 +1,5 @@
-"""The wheel, installed into a fresh environment, with the checkout out of reach: the examples of docs/PYTHON.md from top
-to bottom, and each command."""
+"""The wheel, installed into a fresh environment, with the checkout out of reach: the examples of
+docs/PYTHON.md from top to bottom, and each command."""
 import json
 import os
 import shutil
@@ -29,7 +29,9 @@ def installed(library, tmp_path_factory):
         pytest.skip("there is no objdump")
     folder = tmp_path_factory.mktemp("wheel")
     script = os.path.join(TOP, "packaging", "make_wheel.sh")
-    made = ran(["sh", script, "made"], folder, LIBRARY=os.path.abspath(library.library.path), PYTHON=sys.executable)
+    made = ran(
+        ["sh", script, "made"], folder, LIBRARY=os.path.abspath(library.library.path), PYTHON=sys.executable
+    )
     (wheel,) = made.split()
     assert os.path.basename(wheel).endswith("-py3-none-manylinux_2_17_x86_64.whl")
     ran([sys.executable, "-m", "venv", "--system-site-packages", "it"], folder)
@@ -39,7 +41,11 @@ def installed(library, tmp_path_factory):
 
 def test_the_package_is_whole(installed):
     told = ran(
-        ["it/bin/python", "-c", "import pagnetuf, pagnetuf.places as p; print(pagnetuf.__file__, p.library(), p.rules(), p.page())"],
+        [
+            "it/bin/python",
+            "-c",
+            "import pagnetuf, pagnetuf.places as it; print(pagnetuf.__file__, it.library(), it.rules(), it.page())",
+        ],
         installed,
     ).split()
     inside = os.path.join("it", "lib")

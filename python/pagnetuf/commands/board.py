@@ -4,9 +4,11 @@
   pagnetuf board chair --half 3,3 --to csv --out board
   pagnetuf board rules/sphinx.toml --half 12,6 --to svg > board.svg
 
-json  tiles, vertices, edges, the rim, and vertex stars. board.schema.json beside the package's files says what each
+json  tiles, vertices, edges, the rim, and vertex stars. board.schema.json beside the package's files says
+what each
       value means. Edge i of a tile runs from corner i to the next; x and y are in lengths, y upwards.
-csv   the same, a table a file: --out NAME makes NAME_tiles.csv, NAME_vertices.csv, NAME_edges.csv, NAME_rim.csv,
+csv   the same, a table a file: --out NAME makes NAME_tiles.csv, NAME_vertices.csv, NAME_edges.csv,
+NAME_rim.csv,
       NAME_stars.csv, and NAME_board.csv with what stands before the tables
 npz   the same as arrays of numpy; pagnetuf.Patch.from_npz reads it
 svg   a picture in which each tile has its number as id, and its neighbours"""
@@ -53,14 +55,18 @@ def add_words(parser: argparse.ArgumentParser) -> None:
         type=integers(2, 1, 4096),
         help="all tiles of a window, as in `draw`; default 20,12",
     )
-    shapes = "the shape of N tiles: round (default) and rectangle have a smooth rim, nearest has the nearest tiles"
+    shapes = (
+        "the shape of N tiles: round (default) and rectangle have a smooth rim, nearest has the nearest tiles"
+    )
     parser.add_argument("--shape", choices=SHAPES, default="round", help=shapes)
     add_frame(parser)
     parser.add_argument("--halves", action="store_true", help="half tiles, not joined to whole ones")
     parser.add_argument("--by", choices=BY, help="of svg: what the colours stand for")
     forms = "the format; default json"
     parser.add_argument("--to", choices=("json", "csv", "svg", "npz"), default="json", help=forms)
-    parser.add_argument("--out", metavar="FILE", help="a file instead of standard output; for csv the files' first word")
+    parser.add_argument(
+        "--out", metavar="FILE", help="a file instead of standard output; for csv the files' first word"
+    )
 
 
 def run(options: argparse.Namespace) -> None:

@@ -20,6 +20,8 @@ COMMANDS = {
     "explore": "a page to pan and zoom in the browser",
     "atlas": "a page about a rule: prototiles, inflation, vertex stars, a patch",
 }
+
+
 class Trouble(Exception):
     """Why a command cannot do what was asked, in a sentence."""
 
@@ -51,12 +53,16 @@ def whole_number(least: int, most: int) -> Callable[[str], int]:
 
 
 def colours(text: str) -> List[str]:
-    """A type of argparse: the name of a palette, or colours with commas between, as #rrggbb, #rgb or a name of
-    CSS."""
+    """A type of argparse: the name of a palette, or colours with commas between, as #rrggbb, #rgb or a name
+    of CSS."""
     if text in PALETTES:
         return list(PALETTES[text])
     parts = text.split(",")
-    wrong = [part for part in parts if not re.fullmatch(r"#(?:[0-9A-Fa-f]{3}){1,2}", part) and part.lower() not in NAMES]
+    wrong = [
+        part
+        for part in parts
+        if not re.fullmatch(r"#(?:[0-9A-Fa-f]{3}){1,2}", part) and part.lower() not in NAMES
+    ]
     if wrong:
         raise argparse.ArgumentTypeError(
             f"{wrong[0]!r} is no colour such as #0b3954 or navy, and no palette: {', '.join(PALETTES)}"
@@ -108,7 +114,8 @@ def frame_of(options: argparse.Namespace) -> Frame:
 
 
 def write_pieces(pieces: Iterable[str], path: Optional[str]) -> None:
-    """Writes a text as it is made, to a file or to standard output. A file is there only when all of it is."""
+    """Writes a text as it is made, to a file or to standard output. A file is there only when all of it
+    is."""
     if path:
         write_bytes(lambda file: [file.write(piece.encode()) for piece in pieces], path)
     elif sys.stdout:
@@ -119,8 +126,8 @@ def write_pieces(pieces: Iterable[str], path: Optional[str]) -> None:
 
 
 def write_bytes(write: Callable[[BinaryIO], Any], path: str) -> None:
-    """Writes a file under another name, which it changes when all of it is there. What is no plain file, such as a
-    device, is written as it is."""
+    """Writes a file under another name, which it changes when all of it is there. What is no plain file, such
+    as a device, is written as it is."""
     if os.path.exists(path) and not os.path.isfile(path):
         with open(path, "wb") as file:
             write(file)
@@ -155,14 +162,14 @@ def joined(words: List[str]) -> List[str]:
 
 
 def called() -> str:
-    """What a user types before a command's name: `tiling` if it is installed, as its launcher reports, or `pagnetuf`
-    from a wheel."""
+    """What a user types before a command's name: `tiling` if it is installed, as its launcher reports, or
+    `pagnetuf` from a wheel."""
     script = os.path.basename(sys.argv[0]) if sys.argv else ""
     return os.environ.get("TILING_COMMAND") or ("pagnetuf" if script == "pagnetuf" else "python3 -m pagnetuf")
 
 
 def parser() -> argparse.ArgumentParser:
-    about = f"The commands of the engine are taken too: {', '.join(ENGINE_COMMANDS)}, as docs/FORMATS.md has them."
+    about = f"The engine's own commands are taken too: {', '.join(ENGINE_COMMANDS)}; docs/FORMATS.md."
     top = argparse.ArgumentParser(
         prog=called(), description=__import__("pagnetuf").__doc__, epilog=about, allow_abbrev=False
     )
@@ -204,7 +211,8 @@ def status_of(words: List[str]) -> int:
 
 
 def engine_status(words: List[str]) -> int:
-    """Runs a command of the engine itself, as the program `tiling` does, and says in words why it is refused."""
+    """Runs a command of the engine itself, as the program `tiling` does, and says in words why it is
+    refused."""
     try:
         needs = "rule=-" in words or words[0] in ("calc", "verify")
         sys.stdout.buffer.write(call(words, sys.stdin.buffer.read() if needs else b""))

@@ -102,9 +102,9 @@ def add_look(parser: argparse.ArgumentParser) -> None:
     """The options of the page, its colours and its lines."""
     size, tile = millimetres(2, 1, 20000), millimetres(1, 0.1, 10000)
     by = (
-        "what a colour stands for: kind (default), turn, the rarest vertex star at a tile's corners, neighbours (no two "
-        "tiles with a common edge are alike), or the ring around the centre. With --star, kind, turn, star and ring "
-        "keep the symmetry"
+        "what a colour stands for: kind (default), turn, the rarest vertex star at a tile's corners, neighbours "
+        "(no two tiles with a common edge are alike), or the ring around the centre. With --star, kind, turn, star "
+        "and ring keep the symmetry"
     )
     inks = f"colours of CSS, in the order of the layers, or a palette: {', '.join(PALETTES)}"
     lines = "the width and colour of the lines, 0 for none; default 0.3,#222222"
@@ -133,7 +133,9 @@ def run(options: argparse.Namespace) -> None:
     words = words_of(tiling.machine, frame, Box(at, page.half(tiling)), not options.halves)
     on_page = within(patch, page)
     tell(f"{int(on_page.sum())} tiles; the same window: {places.command()} {words}{source_of(tiling)}")
-    write_pieces(cut_page(patch, page, options) if options.cut else poster_svg(patch, page, options), options.out)
+    write_pieces(
+        cut_page(patch, page, options) if options.cut else poster_svg(patch, page, options), options.out
+    )
 
 
 def source_of(tiling: Tiling) -> str:
@@ -149,9 +151,13 @@ class Page:
         self.centre = np.zeros(4, np.int64)
 
     def half(self, tiling: Tiling) -> Tuple[int, int]:
-        """The window that contains the page, and a little more: also the tiles around each vertex on the page."""
+        """The window that contains the page, and a little more: also the tiles around each vertex on the
+        page."""
         more = [int(side) + 1 for side in tiling.rule.extent]
-        return int(self.wide / self.tile) + more[0], int(self.high / self.tile / 2 / tiling.ring.sine) + more[1]
+        return (
+            int(self.wide / self.tile) + more[0],
+            int(self.high / self.tile / 2 / tiling.ring.sine) + more[1],
+        )
 
     def places(self, patch: Patch, points: np.ndarray) -> np.ndarray:
         """The positions of points on the page, in mm from its upper left corner: float64 (n, 2)."""
@@ -209,7 +215,9 @@ def classes(patch: Patch, page: Page, options: argparse.Namespace) -> Classes:
     """What the colours stand for."""
     by = options.by
     if by == "kind":
-        return Classes(patch.kinds.astype(int), {int(kind): f"kind {kind}" for kind in np.unique(patch.kinds)})
+        return Classes(
+            patch.kinds.astype(int), {int(kind): f"kind {kind}" for kind in np.unique(patch.kinds)}
+        )
     if by == "turn":
         # (a turn that keeps the star keeps each class)
         most = patch.rule.order // options.star[0] if options.star else patch.rule.order
@@ -224,13 +232,15 @@ def classes(patch: Patch, page: Page, options: argparse.Namespace) -> Classes:
         return Classes(found, {int(it): f"ring {it} of {count}" for it in np.unique(found)})
     names, numbers = patch.star_labels()
     at_corners = np.where(patch.corners() >= 0, numbers[patch.corners()], -1)
-    # (stars come by frequency, so the rarest has the greatest number; no tile on the page is at the rim alone)
+    # (stars come by frequency, so the rarest has the greatest number; no tile on the page is at the rim
+    # alone)
     found = np.maximum(at_corners.max(1), 0)
     return Classes(found, {int(it): f"star {it}, of {len(names[it])} tiles" for it in np.unique(found)})
 
 
 def rings(patch: Patch, page: Page) -> np.ndarray:
-    """How many steps across edges each tile is from the tiles at the vertex nearest to the centre of the page."""
+    """How many steps across edges each tile is from the tiles at the vertex nearest to the centre of the
+    page."""
     far = ((patch.rule.ring.xy(patch.vertices() - page.centre)) ** 2).sum(1)
     near, steps = patch.neighbours(), np.full(len(patch), -1)
     layer = np.flatnonzero((patch.corners() == int(np.argmin(far))).any(1))
@@ -259,7 +269,9 @@ def poster_svg(patch: Patch, page: Page, options: argparse.Namespace) -> Iterato
     for (name, label), colour in zip(names.items(), layer_colours(patch, options, list(names))):
         look = f'fill="{colour}" stroke="{colour}" stroke-width="0.1" stroke-linejoin="round" {CLIP}'
         yield layer(f"{options.by}{name}", label, look)
-        yield from lines((joined if options.joined else apart)(patch, np.flatnonzero((of == name) & on_page), texts))
+        yield from lines(
+            (joined if options.joined else apart)(patch, np.flatnonzero((of == name) & on_page), texts)
+        )
         yield "</g>\n"
     width, ink = options.line
     if width:
@@ -304,15 +316,17 @@ def paths(pieces: Iterable[str]) -> Iterator[str]:
 
 
 def layer_colours(patch: Patch, options: argparse.Namespace, names: List[int]) -> List[str]:
-    """The colour of each layer: the given ones in order, or the usual one of each kind or turn. A note says where
-    some are unused, or stand for several layers."""
+    """The colour of each layer: the given ones in order, or the usual one of each kind or turn. A note says
+    where some are unused, or stand for several layers."""
     own = colours_of(patch.rule).by.get(options.by)
     if own and not options.colours:
         return [own[name] for name in names]
     given = list(options.colours or COLOURS)
     if options.colours and len(given) != len(names):
         others = " or ".join(f"--by {by}" for by in BY if by != options.by)
-        told = f"{len(names)} of {len(given)} colours are used" if len(given) > len(names) else "colours repeat"
+        told = (
+            f"{len(names)} of {len(given)} colours are used" if len(given) > len(names) else "colours repeat"
+        )
         tell(f"{told}: by {options.by} this page has {len(names)} layers; try {others}")
     return [given[spot % len(given)] for spot in range(len(names))]
 
@@ -415,8 +429,8 @@ Spot = Tuple[float, float]
 
 
 def clipped(a: Spot, b: Spot, wide: float, high: float) -> Optional[Tuple[Spot, Spot]]:
-    """The part of a segment that is on the page, or None (Y. Liang and B. Barsky). One along a side of the page is
-    left out, as the frame is there."""
+    """The part of a segment that is on the page, or None (Y. Liang and B. Barsky). One along a side of the
+    page is left out, as the frame is there."""
     (x, y), dx, dy, low, up = a, b[0] - a[0], b[1] - a[1], 0.0, 1.0
     for step, room in ((-dx, x), (dx, wide - x), (-dy, y), (dy, high - y)):
         if abs(step) < EPSILON:
@@ -480,8 +494,8 @@ def dxf_head(page: Page) -> str:
 
 
 def dxf(trails: Iterable[List[Spot]], page: Page) -> Iterator[str]:
-    """The same as polylines of DXF, R12, in mm, y upwards: layer CUT red, layer FRAME blue. One that ends where it
-    begins is closed."""
+    """The same as polylines of DXF, R12, in mm, y upwards: layer CUT red, layer FRAME blue. One that ends
+    where it begins is closed."""
     yield dxf_head(page)
     for trail in trails:
         yield polyline("CUT", [(x, page.high - y) for x, y in trail])
