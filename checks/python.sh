@@ -17,7 +17,7 @@ find_library() {
     for archive in "$library" crates/tiling_c/out/libtiling_c.a; do
         [ ! -f "$TILING_LIBRARY" ] || return 0
         [ -f "$archive" ] && is_there gcc || continue
-        tools/make_library.sh "$archive" "$work" > "$work/log" 2>&1 && TILING_LIBRARY=$work/libtiling.so.0
+        packaging/make_library.sh "$archive" "$work" > "$work/log" 2>&1 && TILING_LIBRARY=$work/libtiling.so.0
     done
     [ -f "$TILING_LIBRARY" ]
 }

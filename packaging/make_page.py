@@ -83,13 +83,14 @@ def rule_files():
 def page(engine, sources):
     """The page, with an engine that is packed already."""
     rules = json.dumps(rule_files()).replace("<", "\\u003c")
-    worker, main = (Bundle(f"js/explore/{name}.js").text() for name in ("worker/worker", "main"))
+    worker, boot, main = (Bundle(f"js/explore/{name}.js").text() for name in ("worker/worker", "boot", "main"))
     parts = {
         "<!-- sources -->": f'<meta name="tiling-sources" content="{sources}">',
         "<!-- style -->": f"<style>\n{read('js', 'explore', 'style.css')}</style>",
         "<!-- rules -->": f'<script type="application/json" id="rules">{rules}</script>',
         "<!-- engine -->": f'<script id="tiling-wasm" type="text/plain" data-form="gzip">{engine}</script>',
         "<!-- worker -->": f'<script id="worker-code" type="text/plain">\n{worker}</script>',
+        "<!-- boot -->": f"<script>\n{boot}</script>",
         "<!-- main -->": f'<script type="module">\n{main}</script>',
     }
     text = read("js", "explore.html")

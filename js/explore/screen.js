@@ -5,11 +5,11 @@
 // or smaller, until the next one is ready.
 
 const BLOCK = 512; // pixels, about
-const UNDER_WAY = 2; // blocks that a worker has at a time
+const UNDER_WAY = 2; // blocks in view that a worker has at a time; of those around the view it has one
 const LARGER = 1.6, SMALLER = 1.4;
     // so many times larger or smaller a layer is shown before the next is begun
 const REST = 80; // milliseconds after which a scale rests
-const SLOW = 20; // milliseconds a frame: where frames take longer, enlarged blocks are not made smooth
+const SLOW = 17.5; // milliseconds a frame: where frames take longer, enlarged blocks are not made smooth
 
 class Layer {
   constructor(look, key, part, wide, high) {
@@ -183,21 +183,21 @@ export class Screen {
     return this.top.blocksIn(this.viewIn(this.top)).filter((name) => !this.top.blocks.get(name));
   }
 
-  /** The blocks to be painted next: those in view, and then those around it. While the scale changes, only
-   * those of the
-   * view for which the layer was begun. */
+  /** The blocks to be painted next, and how many a worker may have: those in view, and then those around it,
+   * of which none waits in a worker, so that a new view never waits for them. While the scale changes, only
+   * those of the view for which the layer was begun. */
   next() {
     const { top, state, ratio } = this, isFree = (name) => !top.blocks.has(name);
-    if (top.scale !== state.scale * ratio) return top.goal.filter(isFree);
+    if (top.scale !== state.scale * ratio) return [top.goal.filter(isFree), UNDER_WAY];
     const view = this.viewIn(top), seen = top.blocksIn(view).filter(isFree);
-    return seen.length ? seen : top.blocksIn(view, 1).filter(isFree);
+    return seen.length ? [seen, UNDER_WAY] : [top.blocksIn(view, 1).filter(isFree), 1];
   }
 
   pump() {
     const { top } = this;
     if (!top) return;
-    const most = UNDER_WAY * this.workers.count;
-    for (const name of this.underWay < most ? this.next() : []) {
+    const [names, each] = this.next(), most = each * this.workers.count;
+    for (const name of names) {
       if (this.underWay >= most) break;
       top.blocks.set(name, null);
       this.underWay++;
@@ -240,7 +240,6 @@ export class Screen {
     Object.assign(this.report, { views: this.report.views + 1, tiles: layer.tiles, spent: layer.spent,
         waited });
     this.report.first ??= performance.now(); // since the page began to load
-    this.workers.grow();
   }
 
   /** Lets blocks go that are far from the view. */

@@ -1,15 +1,10 @@
-// Starts the workers from what is inside of the page: their code, the engine, and the rule files.
+// The workers that the head of the page has started, with the rule files that are inside of the page.
 import { tilingNamed } from "./catalogue.js";
 import { byId } from "./page.js";
-import { Workers } from "./workers.js";
 
-const text = (id) => byId(id).textContent;
-
-export function startWorkers() {
-  const url = URL.createObjectURL(new Blob([text("worker-code")], { type: "text/javascript" }));
-  const files = Object.entries(JSON.parse(text("rules")));
-  const rules = files.map(([name, file]) => ({ name, file, builtIn: tilingNamed(name).rule }));
-  const engine = { text: text("tiling-wasm"), isPacked: byId("tiling-wasm").dataset.form === "gzip" };
-  const count = (navigator.hardwareConcurrency ?? 2) > 2 ? 2 : 1;
-  return new Workers(url, count, { engine, rules });
+export function workersWithRules() {
+  const files = Object.entries(JSON.parse(byId("rules").textContent));
+  const workers = window.startedWorkers;
+  workers.give(files.map(([name, file]) => ({ name, file, builtIn: tilingNamed(name).rule })));
+  return workers;
 }

@@ -39,29 +39,32 @@ class Helper {
 }
 
 export class Workers {
-  /** `start` is what each worker begins with: the engine and the rules. There is one worker until `grow` adds
-   * more. */
-  constructor(url, most, start) {
-    Object.assign(this, { url, most, start });
-    this.helpers = [];
-    this.files = new Map();
-    this.add();
-  }
-
-  add() {
-    const helper = new Helper(this.url);
-    this.helpers.push(helper);
-    helper.ask("begin", this.start);
-    for (const [name, bytes] of this.files) helper.ask("openFile", { name, bytes });
-  }
-
-  /** Adds the workers that only help with pictures. */
-  grow() {
-    while (this.helpers.length < this.most) this.add();
+  /** Each worker begins with the engine, and has all that is opened. */
+  constructor(url, count, engine) {
+    this.helpers = Array.from({ length: count }, () => new Helper(url));
+    this.askAll("begin", { engine });
   }
 
   get count() {
     return this.helpers.length;
+  }
+
+  /** Gives each worker the rules that the page has. */
+  give(rules) {
+    this.askAll("have", { rules });
+  }
+
+  /** Asks all workers. The answer is that of the first; what another refuses, it refuses again when it
+   * counts. */
+  askAll(question, more) {
+    const [first, ...others] = this.helpers.map((helper) => helper.ask(question, more));
+    for (const other of others) other.catch(() => null);
+    return first;
+  }
+
+  /** Opens a tiling in all workers. */
+  open(name) {
+    return this.askAll("open", { name });
   }
 
   ask(question, more) {
@@ -74,11 +77,8 @@ export class Workers {
     return idle.ask("paint", { look, part });
   }
 
-  /** Opens a rule file in all workers; the answer is that of the first. */
-  async openFile(name, bytes) {
-    const answers = this.helpers.map((helper) => helper.ask("openFile", { name, bytes }));
-    const answer = await answers[0];
-    if (answer.told) this.files.set(name, bytes);
-    return answer;
+  /** Opens a rule file in all workers. */
+  openFile(name, bytes) {
+    return this.askAll("openFile", { name, bytes });
   }
 }

@@ -35,7 +35,8 @@ from .rule import Rule
 from .texts import address_texts, read_alike
 
 Answer = TypeVar("Answer")
-ABIS = (1, 2)
+ABI = 1
+LATEST_ABI = 2
 FRAME = np.dtype([("seed", "<u8"), ("base", ADDRESS), ("rest", "u1", 6)])
 WINDOW = np.dtype([("at", "<i8", 4), ("w", "<u2"), ("h", "<u2"), ("rest", "u1", 4)])
 OK, BAD_ADDRESS, REFUSED = 0, 4, 255
@@ -114,9 +115,9 @@ class Library:
         try:
             loaded = ctypes.CDLL(path)
             self._take(loaded, CALLS)
-            if self.abi() not in ABIS:
-                raise NoEngine(f"{path} has the interface {self.abi()}, and this package needs {ABIS[-1]}")
-            if self.abi() == ABIS[-1]:
+            if not ABI <= self.abi() <= LATEST_ABI:
+                raise NoEngine(f"{path} has the interface {self.abi()}, and this package needs {LATEST_ABI}")
+            if self.abi() == LATEST_ABI:
                 self._take(loaded, MORE_CALLS)
         except (OSError, AttributeError) as trouble:
             raise NoEngine(f"{path} can't be loaded: {trouble}") from trouble

@@ -1,5 +1,5 @@
 """Where the package finds the C library, rule files, the page, and the program: beside its own files, as a
-wheel has them, in a checkout, or where tools/install.sh puts them."""
+wheel has them, in a checkout, or where packaging/install.sh puts them."""
 import os
 import re
 import shutil

@@ -17,13 +17,13 @@ use Rattle.tile_shape.specs.Usable.{AreUsable}
 use Rattle.addr_calc.specs.Bindings.{Bindings, IsBound, IsUnbound, bind}
 use Rattle.addr_calc.specs.declared.calc_fault.CalcFault.{CalcFault}
 use Rattle.addr_calc.specs.declared.calc_fault.CalcFault.TheVariants.{BadLine, UnknownName, Address as BadAddress, NoEdge, Outside, CoordLimit}
-use Rattle.addr_calc.specs.Does.{Binds, Shows, Places, Crosses, Compares, Relates, Does, Runs}
+use Rattle.addr_calc.specs.Does.{Binds, Shows, Places, LineCrosses, Compares, Relates, Does, Runs}
 use Rattle.addr_calc.specs.Level.{IsCommonLevel}
 use Rattle.addr_calc.specs.Relation.{Relation, AreAllAcross, IsRelation}
 use Rattle.addr_calc.specs.Relation.Relation.{Strangers, Same, Apart, Beside}
-use Rattle.addr_calc.specs.Printed.{show_line, place_line, across_line, common_line, pair_line}
+use Rattle.addr_calc.specs.Printed.{show_line, line_of_place, across_line, common_line, pair_line}
 use Rattle.addr_calc.specs.Reading.{statement_in}
-use Rattle.addr_calc.specs.Refuses.{ReadsUnbound, LacksEdge, LiesOutside, PassesLimit, Refuses, HasFault}
+use Rattle.addr_calc.specs.Refuses.{ReadsUnbound, LineLacksEdge, LiesOutside, LinePassesLimit, LineRefuses, HasFault}
 use Rattle.addr_calc.specs.Script.{Outcome, put_before, ComesOf}
 use Rattle.addr_calc.specs.Statement.{Statement}
 use Rattle.addr_calc.specs.Statement.Statement.{Nothing, Let, Show, Place, Across, Common, Pair}
@@ -119,12 +119,12 @@ module _ (one_text : OneText) (short : FitsAreShort) (t : Tiling) (usable : AreU
       let same = one_bound names name h.address k.address h.bound k.bound in
       let placed : IsPlaced t k.address h.motion = subst (λ a. IsPlaced t a h.motion) same h.placed in (
         h.keeps ∙ sym k.keeps,
-        h.line ∙ ap₂ (λ (a : Address) (m : MotionOf t). place_line t.order name a.kind m) same (k.placed.alone h.motion placed.among) ∙ sym k.line,
+        h.line ∙ ap₂ (λ (a : Address) (m : MotionOf t). line_of_place t.order name a.kind m) same (k.placed.alone h.motion placed.among) ∙ sym k.line,
       )
 
   one_crossing : (names : Bindings) (name edge other : ℕ) (after after' : Bindings)
-      (printed printed' : List ℕ) → Crosses t names name edge other after printed
-      → Crosses t names name edge other after' printed' → AreOne after after' printed printed'
+      (printed printed' : List ℕ) → LineCrosses t names name edge other after printed
+      → LineCrosses t names name edge other after' printed' → AreOne after after' printed printed'
   one_crossing names name edge other after after' printed printed' h k =
       let same = one_bound names name h.address k.address h.bound k.bound in
       let one = one_across t k.address h.across k.across edge h.back k.back
@@ -166,20 +166,21 @@ module _ (one_text : OneText) (short : FitsAreShort) (t : Tiling) (usable : AreU
 
   -- ---- a statement is done or refused
   inside_or_outside : (names : Bindings) (name edge other own part : ℕ) (after : Bindings) (printed : List ℕ)
-      → Crosses t names name edge other after printed → LiesOutside t names name edge own part → ⊥
+      → LineCrosses t names name edge other after printed → LiesOutside t names name edge own part → ⊥
   inside_or_outside names name edge other own part after printed h k =
       h.on_none own (part_along t h.address edge own part
       (subst (λ a. LiesOnBoundary t a edge own part)
       (one_bound names name k.address h.address k.bound h.bound) k.outside.along))
 
-  edge_or_none : (names : Bindings) (name edge : ℕ) (a : Address) → IsBound names name a → edge < edges_of t a.kind → LacksEdge t names name edge → ⊥
+  edge_or_none : (names : Bindings) (name edge : ℕ) (a : Address) → IsBound names name a → edge < edges_of t a.kind → LineLacksEdge t names name edge
+      → ⊥
   edge_or_none names name edge a bound exists k =
       let beyond : edges_of t a.kind ≤ edge = subst (λ (b : Address). edges_of t b.kind ≤ edge)
       (one_bound names name k.address a k.bound bound) k.beyond in
       omega (arith, exists, beyond)
 
   within_or_beyond : (names : Bindings) (name : ℕ) (value : Point) (after : Bindings) (printed : List ℕ)
-      → Places t names name after printed → PassesLimit t names name value → ⊥
+      → Places t names name after printed → LinePassesLimit t names name value → ⊥
   within_or_beyond names name value after printed h k =
       let e : first_refused t k.address.digits ≡ None = subst
       (λ (a : Address). first_refused t a.digits ≡ None)
@@ -202,7 +203,7 @@ module _ (one_text : OneText) (short : FitsAreShort) (t : Tiling) (usable : AreU
   ]
 
   done_or_refused : (names : Bindings) (s : Statement) (after : Bindings) (printed : List ℕ) (number : ℕ)
-      (f : CalcFault) → Does t names s after printed → Refuses t names s number f → ⊥
+      (f : CalcFault) → Does t names s after printed → LineRefuses t names s number f → ⊥
   done_or_refused names s after printed number (UnknownName at) h k = reads_bound names s after printed h k.1
   done_or_refused names (Let name text) after printed number (BadAddress at fault) h k = k.1.none h.address h.accepted h.its_text
   done_or_refused names (Across name edge other) after printed number (NoEdge at) h k = edge_or_none names name edge h.address h.bound h.exists k.1
@@ -219,13 +220,14 @@ module _ (one_text : OneText) (short : FitsAreShort) (t : Tiling) (usable : AreU
       k.outside.alone own part (subst (λ a. LiesOnBoundary t a edge own part)
       (one_bound names name h.address k.address h.bound k.bound) h.outside.along)
 
-  one_value : (names : Bindings) (name : ℕ) (v w : Point) → PassesLimit t names name v → PassesLimit t names name w → v ≡ w
+  one_value : (names : Bindings) (name : ℕ) (v w : Point) → LinePassesLimit t names name v → LinePassesLimit t names name w → v ≡ w
   one_value names name v w h k =
       let e : first_refused t k.address.digits ≡ Some h.number =
       subst (λ (a : Address). first_refused t a.digits ≡ Some h.number) (one_bound names name h.address k.address h.bound k.bound) h.first in
       same_point v w (h.is_value ∙ ap (coefficients t.order) (some_is h.number k.number (sym e ∙ k.first)) ∙ sym k.is_value)
 
-  refused_once : (names : Bindings) (s : Statement) (number : ℕ) (f g : CalcFault) → Refuses t names s number f → Refuses t names s number g → f ≡ g
+  refused_once : (names : Bindings) (s : Statement) (number : ℕ) (f g : CalcFault) → LineRefuses t names s number f → LineRefuses t names s number g
+      → f ≡ g
   refused_once names s number (UnknownName m) (UnknownName n) h k = ap (λ l. UnknownName l) (h.0 ∙ sym k.0)
   refused_once names (Let name text) number (BadAddress m f) (BadAddress n g) h k =
       ap₂ (λ l x. BadAddress l x) (h.0 ∙ sym k.0) (fault_once one_text (children t) text f g h.1.first k.1.first)
@@ -267,19 +269,19 @@ module _ (one_text : OneText) (short : FitsAreShort) (t : Tiling) (usable : AreU
 
   -- a line has a statement and its fault, or none
   abbrev HasRefusal : Bindings → ℕ → List ℕ → CalcFault → Type 0
-  HasRefusal names number text f = (s : Statement) × (statement_in text ≡ Ok s) × Refuses t names s number f
+  HasRefusal names number text f = (s : Statement) × (statement_in text ≡ Ok s) × LineRefuses t names s number f
 
   refusal_runs : (names : Bindings) (number : ℕ) (text : List ℕ) (f : CalcFault) (after : Bindings)
       (printed : List ℕ) → HasRefusal names number text f → Runs t names text after printed → ⊥
   refusal_runs names number text f after printed h k =
       done_or_refused names k.statement after printed number f k.does
-      (subst (λ s. Refuses t names s number f)
+      (subst (λ s. LineRefuses t names s number f)
       (ok_is h.0 k.statement (statement_in text) h.1 k.is_statement) h.2)
 
   refusal_once : (names : Bindings) (number : ℕ) (text : List ℕ) (f g : CalcFault)
       → HasRefusal names number text f → HasRefusal names number text g → f ≡ g
   refusal_once names number text f g h k =
-      refused_once names k.0 number f g (subst (λ s. Refuses t names s number f) (ok_is h.0 k.0 (statement_in text) h.1 k.1) h.2) k.2
+      refused_once names k.0 number f g (subst (λ s. LineRefuses t names s number f) (ok_is h.0 k.0 (statement_in text) h.1 k.1) h.2) k.2
 
   fault_or_runs : (names : Bindings) (number : ℕ) (text : List ℕ) (f : CalcFault) (after : Bindings)
       (printed : List ℕ) → HasFault t names number text f → Runs t names text after printed → ⊥

@@ -6,7 +6,7 @@ use Rattle.theory_addresses.specs.Tables.{Tables, child_kinds}
 use Rattle.theory_addresses.specs.Touch.{Touches}
 use Rattle.theory_addresses.proofs.Touching.{only_touching, Touches-sym}
 use Rattle.pair_machine.specs.Between.{Pair, IsBetween}
-use Rattle.pair_machine.specs.Verdicts.{IsVerdict}
+use Rattle.pair_machine.specs.Verdicts.{IsPairVerdict}
 use Rattle.pair_machine.specs.Views.{as_pair}
 use Rattle.pair_machine.specs.declared.edge_pair.EdgePair.{EdgePair}
 use Rattle.pair_machine.specs.declared.verdict.Verdict.{Verdict}
@@ -66,7 +66,7 @@ module _ (m : Rule) (settled : IsSettled m) (law : OnlyTilesLaw m.order) (cohere
     leads_back = λ e f i. back e f ((h.touching e f).0 i);
   }
 
-  pub related : (verdict : Verdict) → IsVerdict t a b verdict → IsRelation (tiling_of m) a b (relation_of verdict)
+  pub related : (verdict : Verdict) → IsPairVerdict t a b verdict → IsRelation (tiling_of m) a b (relation_of verdict)
   related Strangers h = h
   related Same h = h
   related Apart h = (h.0, h.1, all_across [] h.2)

@@ -7,7 +7,7 @@ use Rattle.addr_calc.specs.declared.calculation.Calculation.{Calculation}
 use Rattle.addr_calc.specs.declared.calc_fault.CalcFault.{CalcFault}
 use Rattle.addr_calc.specs.declared.calc_fault.CalcFault.TheVariants.{NoMemory}
 use Rattle.addr_calc.specs.Refuses.{HasFault}
-use Rattle.addr_calc.specs.Script.{Outcome, put_before, ComesOf, OrNoMemory}
+use Rattle.addr_calc.specs.Script.{Outcome, put_before, ComesOf, LineOrNoMemory}
 
 -- how many bytes and lines are left
 abbrev pub size_left : Option (List ℕ) → ℕ
@@ -49,8 +49,8 @@ module _ (t : Tiling) (all : List (List ℕ)) (before after : Calculation) (line
       )))
 
   -- and its fault is that of all lines
-  pub comes_fault : Comes t all before (line ∷ rest) → (fault : CalcFault) → OrNoMemory (HasFault t before.names (before.number + 1) line) fault
-      → OrNoMemory (λ f. ComesOf t none_bound 1 all (Err f)) fault
+  pub comes_fault : Comes t all before (line ∷ rest) → (fault : CalcFault) → LineOrNoMemory (HasFault t before.names (before.number + 1) line) fault
+      → LineOrNoMemory (λ f. ComesOf t none_bound 1 all (Err f)) fault
   comes_fault comes NoMemory h = tt
   comes_fault comes fault h = comes (Err fault) (inl (fault, h, refl))
 

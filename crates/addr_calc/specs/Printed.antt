@@ -19,8 +19,9 @@ abbrev pub show_line : ℕ → Address → List ℕ
 show_line name a = letter name ∷ blank ∷ address_text a ++ newline ∷ []
 
 -- where a tile lies, as `name kind turn shift`
-abbrev pub place_line : (o : Order) → ℕ → ℕ → Motion (NumberOf o) → List ℕ
-place_line o name kind m = letter name ∷ blank ∷ decimal kind ++ blank ∷ decimal m.turn ++ blank ∷ number_text o m.shift ++ newline ∷ []
+abbrev pub line_of_place : (o : Order) → ℕ → ℕ → Motion (NumberOf o) → List ℕ
+line_of_place o name kind m = letter name ∷ blank ∷ decimal kind ++ blank ∷ decimal m.turn
+    ++ blank ∷ number_text o m.shift ++ newline ∷ []
 
 -- a tile across an edge, and the edge there that leads back, as `name address edge`
 abbrev pub across_line : ℕ → Address → ℕ → List ℕ

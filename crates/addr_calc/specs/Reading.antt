@@ -15,10 +15,10 @@ abbrev pub number_sign : ℕ
 number_sign = 35
 
 -- the number of a name: the field is one letter from `a`, whose code is 97, to `z`
-abbrev pub name_in : List ℕ → Option ℕ
-name_in [] = None
-name_in (byte ∷ []) = if nat_le 97 byte && nat_le byte 122 then Some (byte - 97) else None
-name_in (byte ∷ next ∷ bytes) = None
+abbrev pub name_in_field : List ℕ → Option ℕ
+name_in_field [] = None
+name_in_field (byte ∷ []) = if nat_le 97 byte && nat_le byte 122 then Some (byte - 97) else None
+name_in_field (byte ∷ next ∷ bytes) = None
 
 -- the statement, if no fields are left
 abbrev pub no_word : Statement → ℕ → List (List ℕ) → Result Statement ℕ
@@ -28,32 +28,32 @@ no_word statement place (word ∷ words) = Err place
 -- the statement of each command, by the fields after it
 unfoldable pub let_in : List (List ℕ) → Result Statement ℕ
 let_in words = do
-  name ← word_by name_in 1 words
+  name ← word_by name_in_field 1 words
   text ← word_by some_text 2 name.1
   no_word (Let name.0 text.0) 3 text.1
 
 unfoldable pub show_in : List (List ℕ) → Result Statement ℕ
 show_in words = do
-  name ← word_by name_in 1 words
+  name ← word_by name_in_field 1 words
   no_word (Show name.0) 2 name.1
 
 unfoldable pub place_in : List (List ℕ) → Result Statement ℕ
 place_in words = do
-  name ← word_by name_in 1 words
+  name ← word_by name_in_field 1 words
   no_word (Place name.0) 2 name.1
 
 unfoldable pub across_in : List (List ℕ) → Result Statement ℕ
 across_in words = do
-  from ← word_by name_in 1 words
+  from ← word_by name_in_field 1 words
   edge ← word_by (number_up_to 255) 2 from.1
-  to ← word_by name_in 3 edge.1
+  to ← word_by name_in_field 3 edge.1
   no_word (Across from.0 edge.0 to.0) 4 to.1
 
 -- a statement that asks something of two names
 unfoldable pub two_names_in : (ℕ → ℕ → Statement) → List (List ℕ) → Result Statement ℕ
 two_names_in asks words = do
-  one ← word_by name_in 1 words
-  other ← word_by name_in 2 one.1
+  one ← word_by name_in_field 1 words
+  other ← word_by name_in_field 2 one.1
   no_word (asks one.0 other.0) 3 other.1
 
 -- the statement of fields, of which the first is the command
@@ -71,4 +71,5 @@ command_in (word ∷ words) =
 -- the fields.
 unfoldable pub statement_in : List ℕ → Result Statement ℕ
 statement_in [] = Ok Nothing
-statement_in (byte ∷ bytes) = if byte == number_sign then Ok Nothing else command_in (texts_between blank (byte ∷ bytes))
+statement_in (byte ∷ bytes) =
+    if byte == number_sign then Ok Nothing else command_in (texts_between blank (byte ∷ bytes))

@@ -29,12 +29,12 @@ ReadsUnbound names (Pair one other) = IsUnbound names one ⊎ IsUnbound names ot
 ReadsUnbound names _ = ⊥
 
 -- the text is not the address of a tile of the tiling, and this is its first fault
-pub record IsNoAddress (t : Tiling) (text : List ℕ) (fault : AddressFault) : Type 0 where
+pub record IsNoAddressOfLine (t : Tiling) (text : List ℕ) (fault : AddressFault) : Type 0 where
   pub none : (a : Address) → IsAcceptedAddress (children t) a → text ≡ address_text a → ⊥
   pub first : IsFaultOf (children t) text fault
 
 -- the tile of the name does not have the edge
-pub record LacksEdge (t : Tiling) (names : Bindings) (name edge : ℕ) : Type 0 where
+pub record LineLacksEdge (t : Tiling) (names : Bindings) (name edge : ℕ) : Type 0 where
   pub address : Address
   pub bound : IsBound names name address
   pub beyond : edges_of t address.kind ≤ edge
@@ -47,7 +47,7 @@ pub record LiesOutside (t : Tiling) (names : Bindings) (name own edge part : ℕ
   pub outside : IsOutside t address own edge part
 
 -- this point is the first refused Horner value of the tile of the name
-pub record PassesLimit (t : Tiling) (names : Bindings) (name : ℕ) (value : Point) : Type 0 where
+pub record LinePassesLimit (t : Tiling) (names : Bindings) (name : ℕ) (value : Point) : Type 0 where
   pub address : Address
   pub bound : IsBound names name address
   pub number : NumberOf t.order
@@ -56,15 +56,20 @@ pub record PassesLimit (t : Tiling) (names : Bindings) (name : ℕ) (value : Poi
 
 -- The statement is refused by this fault, which has the number of its line. Out of memory is not a fault of a
 -- statement.
-abbrev pub Refuses : Tiling → Bindings → Statement → ℕ → CalcFault → Type 0
-Refuses t names statement number (UnknownName at) = (at ≡ number) × ReadsUnbound names statement
-Refuses t names (Let name text) number (BadAddress at fault) = (at ≡ number) × IsNoAddress t text fault
-Refuses t names (Across name edge other) number (NoEdge at) = (at ≡ number) × LacksEdge t names name edge
-Refuses t names (Across name edge other) number (Outside at own part) = (at ≡ number) × LiesOutside t names name edge own part
-Refuses t names (Place name) number (CoordLimit at value) = (at ≡ number) × PassesLimit t names name value
-Refuses t names statement number _ = ⊥
+abbrev pub LineRefuses : Tiling → Bindings → Statement → ℕ → CalcFault → Type 0
+LineRefuses t names statement number (UnknownName at) = (at ≡ number) × ReadsUnbound names statement
+LineRefuses t names (Let name text) number (BadAddress at fault) = (at ≡ number)
+    × IsNoAddressOfLine t text fault
+LineRefuses t names (Across name edge other) number (NoEdge at) = (at ≡ number)
+    × LineLacksEdge t names name edge
+LineRefuses t names (Across name edge other) number (Outside at own part) = (at ≡ number)
+    × LiesOutside t names name edge own part
+LineRefuses t names (Place name) number (CoordLimit at value) = (at ≡ number)
+    × LinePassesLimit t names name value
+LineRefuses t names statement number _ = ⊥
 
 -- the fault of a line, by its number and its text
 abbrev pub HasFault : Tiling → Bindings → ℕ → List ℕ → CalcFault → Type 0
 HasFault t names number text (BadLine at place) = (at ≡ number) × (statement_in text ≡ Err place)
-HasFault t names number text fault = (statement : Statement) × (statement_in text ≡ Ok statement) × Refuses t names statement number fault
+HasFault t names number text fault = (statement : Statement) × (statement_in text ≡ Ok statement)
+    × LineRefuses t names statement number fault

@@ -21,7 +21,8 @@ pub data Relation : Type 0 where
 -- across edge f of b.
 pub record AreAllAcross (t : Tiling) (a b : Address) (pairs : List Pair) : Type 0 where
   pub in_order : IsInOrder pairs
-  pub only_across : (e f : ℕ) → IsAmong (record { mine = e; theirs = f }) pairs ↔ ((e < edges_of t a.kind) × IsOnlyAcross t a e b f)
+  pub only_across : (e f : ℕ)
+      → IsAmong (record { mine = e; theirs = f }) pairs ↔ ((e < edges_of t a.kind) × IsOnlyAcross t a e b f)
   pub leads_back : (e f : ℕ) → IsAmong (record { mine = e; theirs = f }) pairs → IsOnlyAcross t b f a e
 
 -- Strangers if they have no common supertile. Otherwise Same if they have one address. Otherwise Apart or

@@ -25,16 +25,17 @@ abbrev pub ComesOf : Tiling → Bindings → ℕ → List (List ℕ) → Outcome
 ComesOf t names number [] outcome = outcome ≡ Ok []
 ComesOf t names number (line ∷ lines) outcome =
     ((fault : CalcFault) × HasFault t names number line fault × (outcome ≡ Err fault))
-    ⊎ ((after : Bindings) × (printed : List ℕ) × (rest : Outcome) × Runs t names line after printed × ComesOf t after (number + 1) lines rest × (outcome ≡ put_before printed rest))
+    ⊎ ((after : Bindings) × (printed : List ℕ) × (rest : Outcome) × Runs t names line after printed
+    × ComesOf t after (number + 1) lines rest × (outcome ≡ put_before printed rest))
 
 -- The outcome of a script. Newlines separate its lines, which are counted from 1. At first no name is bound.
-abbrev pub IsAnswer : Tiling → List ℕ → Outcome → Type 0
-IsAnswer t script outcome = ComesOf t none_bound 1 (texts_between newline script) outcome
+abbrev pub IsOutcome : Tiling → List ℕ → Outcome → Type 0
+IsOutcome t script outcome = ComesOf t none_bound 1 (texts_between newline script) outcome
 
 -- memory ran out, or the fault has this cause
-abbrev pub OrNoMemory : (CalcFault → Type 0) → CalcFault → Type 0
-OrNoMemory P NoMemory = Unit {0}
-OrNoMemory P fault = P fault
+abbrev pub LineOrNoMemory : (CalcFault → Type 0) → CalcFault → Type 0
+LineOrNoMemory P NoMemory = Unit {0}
+LineOrNoMemory P fault = P fault
 
 -- memory ran out, or the result is this outcome
 abbrev pub IsOrNoMemory : Outcome → Outcome → Type 0

@@ -44,6 +44,6 @@ abbrev pub any_in : List ℕ → Option (List ℕ)
 any_in word = Some word
 
 -- the result of a reader of the program is what the definition reads
-abbrev pub AnswersAs : {X Y : Type 0} → (X → Y) → Result X ℕ → Result Y ℕ → Type 0
-AnswersAs seen (Ok x) read = read ≡ Ok (seen x)
-AnswersAs seen (Err place) read = read ≡ Err place
+abbrev pub FieldsAnswerAs : {X Y : Type 0} → (X → Y) → Result X ℕ → Result Y ℕ → Type 0
+FieldsAnswerAs seen (Ok x) read = read ≡ Ok (seen x)
+FieldsAnswerAs seen (Err place) read = read ≡ Err place

@@ -2,7 +2,7 @@
 ghost use Rattle.std.specs.Prelude.{◌≡◌, ◌<◌, ◌≤◌, Ok, Err, IfOk, IfErr, length};
 ghost use Rattle.std.specs.declared.result.Result.{Result};
 ghost use Rattle.rule_model.specs.Tiling.{tiling_of};
-ghost use Rattle.addr_calc.specs.Script.{Outcome, IsAnswer, OrNoMemory, IsOrNoMemory, outcome_of, longest_script};
+ghost use Rattle.addr_calc.specs.Script.{Outcome, IsOutcome, LineOrNoMemory, IsOrNoMemory, outcome_of, longest_script};
 
 use crate::calc_fault::CalcFault;
 use crate::calculation::Calculation;
@@ -32,12 +32,12 @@ use tile_place::machine::Machine;
 pub fn calc(alloc: Global, machine: &Machine, script: &[u8]) -> Result<Vec<u8>, CalcFault>
     requires { length script.now ≤ longest_script }
     // The text is what the script prints; a fault is that of the first line that has one.
-    ensures ran { IfOk result (λ text. IsAnswer (tiling_of machine.now) script.now (Ok text.items)) }
-    ensures fault { IfErr result (OrNoMemory (λ fault. IsAnswer (tiling_of machine.now) script.now
+    ensures ran { IfOk result (λ text. IsOutcome (tiling_of machine.now) script.now (Ok text.items)) }
+    ensures fault { IfErr result (LineOrNoMemory (λ fault. IsOutcome (tiling_of machine.now) script.now
         (Err fault))) }
 
     // The outcome of the script is returned, unless memory runs out.
-    ensures answered { (outcome : Outcome) → IsAnswer (tiling_of machine.now) script.now outcome
+    ensures answered { (outcome : Outcome) → IsOutcome (tiling_of machine.now) script.now outcome
         → IsOrNoMemory (outcome_of result) outcome }
 {
     // The law by which the outcome of a script is what is returned, and what it requires of the child kinds.
@@ -57,8 +57,8 @@ fn calculated<L: Ledger>(
     requires name { blank.name ≡ L.name }
     requires parts { blank.parts ≡ L.parts }
     requires some { 0 < blank.parts }
-    ensures ran { IfOk result (λ text. IsAnswer (tiling_of machine.now) script.now (Ok text.items)) }
-    ensures fault { IfErr result (OrNoMemory (λ fault. IsAnswer (tiling_of machine.now) script.now
+    ensures ran { IfOk result (λ text. IsOutcome (tiling_of machine.now) script.now (Ok text.items)) }
+    ensures fault { IfErr result (LineOrNoMemory (λ fault. IsOutcome (tiling_of machine.now) script.now
         (Err fault))) }
 {
     let mut steps = Steps::<L>::new(blank);

@@ -7,8 +7,8 @@ ghost use Rattle.addr_calc.specs.Bindings.{none_bound, address_of_name, IsBound,
 ghost use Rattle.addr_calc.specs.Calculation.{AllFit, WasDone, WasRun};
 ghost use Rattle.addr_calc.specs.Compiled.{AreOf};
 ghost use Rattle.addr_calc.specs.Printed.{letter, across_line, level_text};
-ghost use Rattle.addr_calc.specs.Refuses.{Refuses, HasFault};
-ghost use Rattle.addr_calc.specs.Script.{OrNoMemory};
+ghost use Rattle.addr_calc.specs.Refuses.{LineRefuses, HasFault};
+ghost use Rattle.addr_calc.specs.Script.{LineOrNoMemory};
 ghost use Rattle.addr_calc.specs.Statement.Statement.{Let, Show, Place, Across, Common, Pair};
 ghost use Rattle.addr_calc.specs.declared.calc_fault.CalcFault.TheVariants.{UnknownName};
 
@@ -73,7 +73,7 @@ impl Calculation {
         requires compiled { AreOf (tiling_of machine.now) pairs.old }
         ensures compiled { AreOf (tiling_of machine.now) pairs.new }
         ensures ran { OnOk result (WasRun (tiling_of machine.now) line.now self.old self.new) }
-        ensures fault { IfErr result (OrNoMemory
+        ensures fault { IfErr result (LineOrNoMemory
             (HasFault (tiling_of machine.now) self.old.names (self.old.number + 1) line.now)) }
     {
         self.number += 1;
@@ -98,8 +98,8 @@ impl Calculation {
     fn bind(&mut self, machine: &Machine, name: Name, text: &[u8]) -> Result<(), CalcFault>
         ensures done { OnOk result (WasDone (tiling_of machine.now) (Let name.number text.now) self.old
             self.new) }
-        ensures refused { IfErr result (OrNoMemory
-            (Refuses (tiling_of machine.now) self.old.names (Let name.number text.now) self.old.number)) }
+        ensures refused { IfErr result (LineOrNoMemory
+            (LineRefuses (tiling_of machine.now) self.old.names (Let name.number text.now) self.old.number)) }
     {
         match read_address(machine.checked().uses(), text) {
             Ok(address) => {
@@ -117,7 +117,7 @@ impl Calculation {
     fn show(&mut self, name: Name) -> Result<(), CalcFault>
         ensures done { (t : Tiling) → OnOk result (WasDone t (Show name.number) self.old self.new) }
         ensures refused { (t : Tiling) → IfErr result
-            (OrNoMemory (Refuses t self.old.names (Show name.number) self.old.number)) }
+            (LineOrNoMemory (LineRefuses t self.old.names (Show name.number) self.old.number)) }
     {
         let Some(address) = self.names.get(name) else {
             return Err(CalcFault::UnknownName { line: self.number });
@@ -132,8 +132,8 @@ impl Calculation {
     fn place(&mut self, machine: &Machine, name: Name) -> Result<(), CalcFault>
         requires all_fit { AllFit (tiling_of machine.now) self.old.names }
         ensures done { OnOk result (WasDone (tiling_of machine.now) (Place name.number) self.old self.new) }
-        ensures refused { IfErr result (OrNoMemory
-            (Refuses (tiling_of machine.now) self.old.names (Place name.number) self.old.number)) }
+        ensures refused { IfErr result (LineOrNoMemory
+            (LineRefuses (tiling_of machine.now) self.old.names (Place name.number) self.old.number)) }
     {
         let Some(address) = self.names.get(name) else {
             return Err(CalcFault::UnknownName { line: self.number });
@@ -166,8 +166,8 @@ impl Calculation {
         requires all_fit { AllFit (tiling_of machine.now) self.old.names }
         ensures done { OnOk result (WasDone (tiling_of machine.now) (Across name.number edge other.number)
             self.old self.new) }
-        ensures refused { IfErr result (OrNoMemory
-            (Refuses (tiling_of machine.now) self.old.names (Across name.number edge other.number)
+        ensures refused { IfErr result (LineOrNoMemory
+            (LineRefuses (tiling_of machine.now) self.old.names (Across name.number edge other.number)
             self.old.number)) }
     {
         let Some(address) = self.names.get(name) else {
@@ -197,7 +197,7 @@ impl Calculation {
         ensures done { (t : Tiling) → OnOk result
             (WasDone t (Common one.number other.number) self.old self.new) }
         ensures refused { (t : Tiling) → IfErr result
-            (OrNoMemory (Refuses t self.old.names (Common one.number other.number) self.old.number)) }
+            (LineOrNoMemory (LineRefuses t self.old.names (Common one.number other.number) self.old.number)) }
     {
         let (Some(first), Some(second)) = (self.names.get(one), self.names.get(other)) else {
             return Err(CalcFault::UnknownName { line: self.number });
@@ -223,8 +223,8 @@ impl Calculation {
         ensures compiled { AreOf (tiling_of machine.now) pairs.new }
         ensures done { OnOk result (WasDone (tiling_of machine.now) (Pair one.number other.number) self.old
             self.new) }
-        ensures refused { IfErr result (OrNoMemory
-            (Refuses (tiling_of machine.now) self.old.names (Pair one.number other.number)
+        ensures refused { IfErr result (LineOrNoMemory
+            (LineRefuses (tiling_of machine.now) self.old.names (Pair one.number other.number)
             self.old.number)) }
     {
         let (Some(first), Some(second)) = (self.names.get(one), self.names.get(other)) else {

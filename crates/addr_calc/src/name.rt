@@ -1,7 +1,7 @@
 //! Names.
 ghost use Rattle.std.specs.Prelude.{◌≡◌, ◌<◌, option_map};
 ghost use Rattle.addr_calc.specs.Printed.{letter};
-ghost use Rattle.addr_calc.specs.Reading.{name_in};
+ghost use Rattle.addr_calc.specs.Reading.{name_in_field};
 
 /// A name: one letter from `a` to `z`, by its number from 0.
 #[derive(Clone, Copy)]
@@ -13,7 +13,7 @@ pub struct Name {
 impl Name {
     /// Returns the name that a field is, if it is one.
     pub fn named(word: &[u8]) -> Option<Name>
-        ensures { option_map (λ name. name.number) result ≡ name_in word.now }
+        ensures { option_map (λ name. name.number) result ≡ name_in_field word.now }
     {
         match word {
             [letter] if *letter >= b'a' && *letter <= b'z' => Some(Name {

@@ -2,9 +2,9 @@
 ghost use Rattle.std.specs.Prelude.{ℕ, ◌∷◌};
 ghost use Rattle.tile_shape.specs.Decimal.{number_up_to};
 ghost use Rattle.tile_shape.specs.Words.{word_by, some_text};
-ghost use Rattle.addr_calc.specs.Reading.{name_in, no_word, let_in, show_in, place_in, across_in, two_names_in, command_in, statement_in};
+ghost use Rattle.addr_calc.specs.Reading.{name_in_field, no_word, let_in, show_in, place_in, across_in, two_names_in, command_in, statement_in};
 ghost use Rattle.addr_calc.specs.Statement.{Statement as TheStatement};
-ghost use Rattle.addr_calc.specs.Views.{AnswersAs, any_in, words_left, statement_of};
+ghost use Rattle.addr_calc.specs.Views.{FieldsAnswerAs, any_in, words_left, statement_of};
 
 use crate::cut::cut;
 use crate::name::Name;
@@ -37,7 +37,7 @@ pub enum Statement<'a> {
 /// if one is missing.
 #[tactic(auto, unfolding(crate::specs::Reading::statement_in))]
 pub fn statement_in(line: &[u8]) -> Result<Statement<'_>, u8>
-    ensures { AnswersAs statement_of result (statement_in line.now) }
+    ensures { FieldsAnswerAs statement_of result (statement_in line.now) }
 {
     match line {
         [] | [b'#', ..] => Ok(Statement::Nothing),
@@ -51,7 +51,7 @@ pub fn statement_in(line: &[u8]) -> Result<Statement<'_>, u8>
 /// Reads the statement of a command from the fields after it.
 #[tactic(auto, unfolding(crate::specs::Reading::command_in))]
 fn command_in<'a>(command: &[u8], words: Option<&'a [u8]>) -> Result<Statement<'a>, u8>
-    ensures { AnswersAs statement_of result (command_in (command.now ∷ words_left words.entry)) }
+    ensures { FieldsAnswerAs statement_of result (command_in (command.now ∷ words_left words.entry)) }
 {
     if command == b"let".as_slice() {
         let_in(words)
@@ -75,7 +75,7 @@ fn command_in<'a>(command: &[u8], words: Option<&'a [u8]>) -> Result<Statement<'
 /// `let name address`.
 #[tactic(auto, unfolding(crate::specs::Reading::let_in))]
 fn let_in(words: Option<&[u8]>) -> Result<Statement<'_>, u8>
-    ensures { AnswersAs statement_of result (let_in (words_left words.entry)) }
+    ensures { FieldsAnswerAs statement_of result (let_in (words_left words.entry)) }
 {
     let (name, words) = name_at(1, words)?;
     let (text, words) = text_at(2, words)?;
@@ -86,7 +86,7 @@ fn let_in(words: Option<&[u8]>) -> Result<Statement<'_>, u8>
 /// `show name`.
 #[tactic(auto, unfolding(crate::specs::Reading::show_in))]
 fn show_in(words: Option<&[u8]>) -> Result<Statement<'_>, u8>
-    ensures { AnswersAs statement_of result (show_in (words_left words.entry)) }
+    ensures { FieldsAnswerAs statement_of result (show_in (words_left words.entry)) }
 {
     let (name, words) = name_at(1, words)?;
     end_at(2, words)?;
@@ -96,7 +96,7 @@ fn show_in(words: Option<&[u8]>) -> Result<Statement<'_>, u8>
 /// `place name`.
 #[tactic(auto, unfolding(crate::specs::Reading::place_in))]
 fn place_in(words: Option<&[u8]>) -> Result<Statement<'_>, u8>
-    ensures { AnswersAs statement_of result (place_in (words_left words.entry)) }
+    ensures { FieldsAnswerAs statement_of result (place_in (words_left words.entry)) }
 {
     let (name, words) = name_at(1, words)?;
     end_at(2, words)?;
@@ -106,7 +106,7 @@ fn place_in(words: Option<&[u8]>) -> Result<Statement<'_>, u8>
 /// `across name edge name`.
 #[tactic(auto, unfolding(crate::specs::Reading::across_in))]
 fn across_in(words: Option<&[u8]>) -> Result<Statement<'_>, u8>
-    ensures { AnswersAs statement_of result (across_in (words_left words.entry)) }
+    ensures { FieldsAnswerAs statement_of result (across_in (words_left words.entry)) }
 {
     let (name, words) = name_at(1, words)?;
     let (edge, words) = edge_at(2, words)?;
@@ -118,7 +118,8 @@ fn across_in(words: Option<&[u8]>) -> Result<Statement<'_>, u8>
 /// Reads the two names of a statement about two tiles.
 #[tactic(auto, unfolding(crate::specs::Reading::two_names_in))]
 fn two_names_in(words: Option<&[u8]>) -> Result<(Name, Name), u8>
-    ensures { (asks : ℕ → ℕ → TheStatement) → AnswersAs (λ names. asks names.0.number names.1.number) result
+    ensures { (asks : ℕ → ℕ → TheStatement)
+        → FieldsAnswerAs (λ names. asks names.0.number names.1.number) result
         (two_names_in asks (words_left words.entry)) }
 {
     let (one, words) = name_at(1, words)?;
@@ -129,8 +130,8 @@ fn two_names_in(words: Option<&[u8]>) -> Result<(Name, Name), u8>
 
 /// Reads the name in the first field, and returns the fields after it.
 fn name_at(place: u8, words: Option<&[u8]>) -> Result<(Name, Option<&[u8]>), u8>
-    ensures { AnswersAs (λ found. (found.0.number, words_left found.1)) result
-        (word_by name_in place (words_left words.entry)) }
+    ensures { FieldsAnswerAs (λ found. (found.0.number, words_left found.1)) result
+        (word_by name_in_field place (words_left words.entry)) }
 {
     let (word, words) = word_at(place, words)?;
     let name = Name::named(word).ok_or(place)?;
@@ -139,7 +140,7 @@ fn name_at(place: u8, words: Option<&[u8]>) -> Result<(Name, Option<&[u8]>), u8>
 
 /// Reads the number of an edge in the first field.
 fn edge_at(place: u8, words: Option<&[u8]>) -> Result<(u8, Option<&[u8]>), u8>
-    ensures { AnswersAs (λ found. (found.0, words_left found.1)) result
+    ensures { FieldsAnswerAs (λ found. (found.0, words_left found.1)) result
         (word_by (number_up_to 255) place (words_left words.entry)) }
 {
     let (word, words) = word_at(place, words)?;
@@ -149,7 +150,7 @@ fn edge_at(place: u8, words: Option<&[u8]>) -> Result<(u8, Option<&[u8]>), u8>
 
 /// Reads the first field, if it is not empty.
 fn text_at(place: u8, words: Option<&[u8]>) -> Result<(&[u8], Option<&[u8]>), u8>
-    ensures { AnswersAs (λ found. (found.0.now, words_left found.1)) result
+    ensures { FieldsAnswerAs (λ found. (found.0.now, words_left found.1)) result
         (word_by some_text place (words_left words.entry)) }
 {
     let (word, words) = word_at(place, words)?;
@@ -161,7 +162,7 @@ fn text_at(place: u8, words: Option<&[u8]>) -> Result<(&[u8], Option<&[u8]>), u8
 
 /// Reads the first field, whatever it is.
 fn word_at(place: u8, words: Option<&[u8]>) -> Result<(&[u8], Option<&[u8]>), u8>
-    ensures { AnswersAs (λ found. (found.0.now, words_left found.1)) result
+    ensures { FieldsAnswerAs (λ found. (found.0.now, words_left found.1)) result
         (word_by any_in place (words_left words.entry)) }
 {
     match words {
@@ -172,7 +173,7 @@ fn word_at(place: u8, words: Option<&[u8]>) -> Result<(&[u8], Option<&[u8]>), u8
 
 /// Tests that no field is left. Err has the position of the first one too many.
 fn end_at(place: u8, words: Option<&[u8]>) -> Result<(), u8>
-    ensures { (s : TheStatement) → AnswersAs (λ _. s) result (no_word s place (words_left words.entry)) }
+    ensures { (s : TheStatement) → FieldsAnswerAs (λ _. s) result (no_word s place (words_left words.entry)) }
 {
     match words {
         Some(_) => Err(place),

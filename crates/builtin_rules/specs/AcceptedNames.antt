@@ -11,4 +11,5 @@ use Rattle.builtin_rules.specs.Named.{named}
 -- values that its order refuses
 pub record IsAcceptedName (name : Name) : Type 0 where
   pub numbered : IsNumbered (points_of (named name).order) (tiling_listed (named name)).rule
-  pub edge_to_edge : IsEdgeToEdge (points_of (named name).order) (as_edition (named name).edition) (is_refused (named name).order) (tiling_listed (named name)).rule
+  pub edge_to_edge : IsEdgeToEdge (points_of (named name).order) (as_edition (named name).edition)
+      (is_refused (named name).order) (tiling_listed (named name)).rule

@@ -18,13 +18,17 @@ rhombs_and_halves_of_squares s s- h h- = record {
       ∷ mated_type h- (s ∷ h- ∷ s- ∷ []) ∷ mated_type h (s ∷ h ∷ s- ∷ []) ∷ [];
   -- the rhomb, and then the halves of the square
   kinds =
-      prototile (at +0 +0 +0 +0 ∷ at +1 +0 +0 +0 ∷ at +1 +1 +0 +0 ∷ at +0 +1 +0 +0 ∷ []) (s ∷ s- ∷ s ∷ s- ∷ [])
-      (child 0 0 (at +0 +0 +0 +0) ∷ child 1 0 (at +1 +0 +0 +0) ∷ child 2 5 (at +2 +1 +1 -1) ∷ child 0 4 (at +2 +2 +1 -1) ∷ child 1 4 (at +1 +2 +1 -1)
+      prototile (at +0 +0 +0 +0 ∷ at +1 +0 +0 +0 ∷ at +1 +1 +0 +0 ∷ at +0 +1 +0 +0 ∷ [])
+      (s ∷ s- ∷ s ∷ s- ∷ [])
+      (child 0 0 (at +0 +0 +0 +0) ∷ child 1 0 (at +1 +0 +0 +0) ∷ child 2 5 (at +2 +1 +1 -1) ∷ child 0 4
+      (at +2 +2 +1 -1) ∷ child 1 4 (at +1 +2 +1 -1)
       ∷ child 2 1 (at +0 +1 +0 +0) ∷ child 0 2 (at +1 +1 +0 -1) ∷ [])
       ∷ prototile (at +0 +0 +0 +0 ∷ at +0 +1 +0 -1 ∷ at +0 +1 +0 +0 ∷ []) (h ∷ s ∷ s ∷ [])
-      (child 1 3 (at +2 +1 +0 +0) ∷ child 1 5 (at +1 +0 +1 +0) ∷ child 2 4 (at +1 +1 +0 -1) ∷ child 0 3 (at +2 +1 +0 -1) ∷ child 0 1 (at +1 +0 +0 +0) ∷ [])
+      (child 1 3 (at +2 +1 +0 +0) ∷ child 1 5 (at +1 +0 +1 +0) ∷ child 2 4 (at +1 +1 +0 -1) ∷ child 0 3
+      (at +2 +1 +0 -1) ∷ child 0 1 (at +1 +0 +0 +0) ∷ [])
       ∷ prototile (at +0 +0 +0 +0 ∷ at +0 +0 +0 -1 ∷ at +0 +1 +0 -1 ∷ []) (s- ∷ s- ∷ h- ∷ [])
-      (child 2 5 (at +2 +0 +0 -1) ∷ child 2 3 (at +1 +0 -1 +0) ∷ child 1 4 (at +1 +1 +0 -1) ∷ child 0 4 (at +2 +1 +0 -1) ∷ child 0 6 (at +1 +0 +0 +0) ∷ [])
+      (child 2 5 (at +2 +0 +0 -1) ∷ child 2 3 (at +1 +0 -1 +0) ∷ child 1 4 (at +1 +1 +0 -1) ∷ child 0 4
+      (at +2 +1 +0 -1) ∷ child 0 6 (at +1 +0 +0 +0) ∷ [])
       ∷ [];
 }
 

@@ -16,7 +16,8 @@ abbrev pub TypeBy : (Type 0 → Type 0) → Type 0
 TypeBy R = TypeNumbers (R (List ℕ))
 
 abbrev pub KindBy : (Type 0 → Type 0) → Type 0
-KindBy R = KindNumbers (R (List Point)) (R (List ℕ)) (R (List Child)) (R (List (R (List Contact)))) (R (List (R (List ChildEdge))))
+KindBy R = KindNumbers (R (List Point)) (R (List ℕ)) (R (List Child)) (R (List (R (List Contact))))
+    (R (List (R (List ChildEdge))))
 
 abbrev pub RuleBy : (Type 0 → Type 0) → Type 0
 RuleBy R = RuleNumbers (R (List ℕ)) (R (List (TypeBy R))) (R (List (KindBy R)))

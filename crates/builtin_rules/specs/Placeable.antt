@@ -14,5 +14,7 @@ written_child w k c = get_or (children_of w.rule k) c no_child
 -- its factor and its shifts are small, and each child is turned by less than a whole turn
 pub record IsPlaceable (w : ListedRule) : Type 0 where
   pub factor_small : IsSmall w.order w.rule.factor
-  pub shift_small : (k c : ℕ) → k < length w.rule.kinds → c < length (children_of w.rule k) → IsSmall w.order (written_child w k c).motion.shift
-  pub turn_below : (k c : ℕ) → k < length w.rule.kinds → c < length (children_of w.rule k) → (written_child w k c).motion.turn < (points_of w.order).order
+  pub shift_small : (k c : ℕ) → k < length w.rule.kinds → c < length (children_of w.rule k)
+      → IsSmall w.order (written_child w k c).motion.shift
+  pub turn_below : (k c : ℕ) → k < length w.rule.kinds → c < length (children_of w.rule k)
+      → (written_child w k c).motion.turn < (points_of w.order).order

@@ -11,11 +11,20 @@ abbrev pub written_type : TypeBy Fixed → EdgeType
 written_type t = record { mate = t.mate; parts = t.parts.now }
 
 abbrev pub written_kind : KindBy Fixed → Kind Point
-written_kind k = record { vertices = k.vertices.now; edges = k.edges.now; children = map as_child k.children.now }
+written_kind k = record {
+  vertices = k.vertices.now;
+  edges = k.edges.now;
+  children = map as_child k.children.now;
+}
 
 abbrev pub written : RuleBy Fixed → ListedRule
 written r = record {
   edition = r.edition;
   order = r.order;
-  rule = record { factor = r.factor; glue = r.glue.now; types = map written_type r.types.now; kinds = map written_kind r.kinds.now };
+  rule = record {
+    factor = r.factor;
+    glue = r.glue.now;
+    types = map written_type r.types.now;
+    kinds = map written_kind r.kinds.now;
+  };
 }

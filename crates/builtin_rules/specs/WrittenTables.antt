@@ -13,4 +13,8 @@ written_tables_of_kind k = record {
 }
 
 abbrev pub written_tables : RuleBy Fixed → Tables
-written_tables r = record { mates = map (λ t. t.mate) r.types.now; subs = map (λ t. t.parts.now) r.types.now; kinds = map written_tables_of_kind r.kinds.now }
+written_tables r = record {
+  mates = map (λ t. t.mate) r.types.now;
+  subs = map (λ t. t.parts.now) r.types.now;
+  kinds = map written_tables_of_kind r.kinds.now;
+}

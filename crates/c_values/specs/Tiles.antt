@@ -32,7 +32,8 @@ refused_as status = record {
   rest = 0 ∷ 0 ∷ 0 ∷ 0 ∷ [];
 }
 
--- The numbers give a motion of the order. Its turn is below n, and its shift is a point of the order with coefficients up to 2^24 in absolute value.
+-- The numbers give a motion of the order. Its turn is below n, and its shift is a point of the order with
+-- coefficients up to 2^24 in absolute value.
 pub record GivesMotion (o : Order) (p : PlainTile) : Type 0 where
   pub turn_below : p.turn < (points_of o).order
   pub within : IsWithin (2 ^ 24) (motion_of p).shift

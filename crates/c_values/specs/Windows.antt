@@ -25,7 +25,8 @@ pub record IsExtent (n : ℕ) : Type 0 where
   pub some : 1 ≤ n
   pub at_most : n ≤ 4096
 
--- the numbers give a window: its centre has coefficients up to 2^20 in absolute value, and its half-width and half-height are in their range
+-- the numbers give a window: its centre has coefficients up to 2^20 in absolute value, and its half-width and
+-- half-height are in their range
 pub record GivesWindow (p : PlainWindow) : Type 0 where
   pub near : IsWithin (2 ^ 20) (record { c = p.at })
   pub width : IsExtent p.w

@@ -25,8 +25,10 @@ check_fault_text WrongFactor = codes "WrongFactor"
 check_fault_text (BadMate ty) = codes "BadMate " ++ decimal ty
 check_fault_text (BadLength kind edge) = codes "BadLength " ++ decimal kind ++ codes " " ++ decimal edge
 check_fault_text (BadSubdivision ty) = codes "BadSubdivision " ++ decimal ty
-check_fault_text (ChildEdgeLoose kind child edge) = codes "ChildEdgeLoose " ++ decimal kind ++ codes " " ++ decimal child ++ codes " " ++ decimal edge
-check_fault_text (BoundaryWrong kind edge part) = codes "BoundaryWrong " ++ decimal kind ++ codes " " ++ decimal edge ++ codes " " ++ decimal part
+check_fault_text (ChildEdgeLoose kind child edge) = codes "ChildEdgeLoose " ++ decimal kind ++ codes " "
+    ++ decimal child ++ codes " " ++ decimal edge
+check_fault_text (BoundaryWrong kind edge part) = codes "BoundaryWrong " ++ decimal kind ++ codes " "
+    ++ decimal edge ++ codes " " ++ decimal part
 check_fault_text (Unused kind) = codes "Unused " ++ decimal kind
 check_fault_text (GlueWrong ty) = codes "GlueWrong " ++ decimal ty
 check_fault_text NoMemory = codes "NoMemory"

@@ -18,6 +18,7 @@ list_fault_text (Double line) = codes "Double " ++ decimal line
 list_fault_text (Missing addr) = codes "Missing " ++ address_text (address_of addr)
 list_fault_text (WrongPlace line motion) = codes "WrongPlace " ++ decimal line ++ blank ∷ motion_text motion
 list_fault_text (Stray line) = codes "Stray " ++ decimal line
-list_fault_text (DepthLimit addr edge) = codes "DepthLimit " ++ address_text (address_of addr) ++ blank ∷ decimal edge
+list_fault_text (DepthLimit addr edge) = codes "DepthLimit " ++ address_text (address_of addr)
+    ++ blank ∷ decimal edge
 list_fault_text (CoordLimit value) = codes "CoordLimit " ++ point_text value
 list_fault_text NoMemory = codes "NoMemory"

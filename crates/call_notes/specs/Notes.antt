@@ -28,7 +28,8 @@ status_text (BadAddress fault) = codes "BadAddress " ++ address_fault_text fault
 status_text (NoEdge edge edges) = codes "NoEdge " ++ decimal edge ++ blank ∷ decimal edges
 status_text (NoVertex vertex edges) = codes "NoVertex " ++ decimal vertex ++ blank ∷ decimal edges
 status_text (Outside edge part) = codes "Outside " ++ decimal edge ++ blank ∷ decimal part
-status_text (DepthLimit addr edge) = codes "DepthLimit " ++ address_text (address_of addr) ++ blank ∷ decimal edge
+status_text (DepthLimit addr edge) = codes "DepthLimit " ++ address_text (address_of addr)
+    ++ blank ∷ decimal edge
 status_text (CoordLimit value) = codes "CoordLimit " ++ point_text value
 status_text TooManyTiles = codes "TooManyTiles"
 status_text StarTooBig = codes "StarTooBig"
@@ -42,8 +43,8 @@ abbrev pub note_of : Status → List ℕ
 note_of Done = []
 note_of status = decimal (code_of status) ++ blank ∷ status_text status ++ newline ∷ []
 
--- The notes took the start of a line, and the whole line unless their count of faults rose. `before` and `after` are that count, `old` and `new` the bytes
--- taken, before and after the call.
+-- The notes took the start of a line, and the whole line unless their count of faults rose. `before` and
+-- `after` are that count, `old` and `new` the bytes taken, before and after the call.
 pub record IsNoted (before after : ℕ) (old new : Option (List ℕ)) (line : List ℕ) : Type 0 where
   pub front : (count : ℕ) × (count ≤ length line) × Takes old new (take count line)
   pub whole : (Rose before after → ⊥) → Takes old new line

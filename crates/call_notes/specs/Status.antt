@@ -41,8 +41,8 @@ IsCutShort ReadFault = Unit {0}
 IsCutShort NoMemory = Unit {0}
 IsCutShort _ = ⊥
 
--- The depth, a coefficient or the number of tiles is too large, in a window or around a vertex. Or a list of tiles omits a tile of the window, or has one with
--- another motion.
+-- The depth, a coefficient or the number of tiles is too large, in a window or around a vertex. Or a list of
+-- tiles omits a tile of the window, or has one with another motion.
 abbrev pub IsLimit : Status → Type 0
 IsLimit (DepthLimit addr edge) = Unit {0}
 IsLimit (CoordLimit value) = Unit {0}

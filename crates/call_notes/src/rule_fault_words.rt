@@ -18,7 +18,7 @@ use rule_text::text_fault::TextFault;
 /// Puts a key of a rule file.
 fn put_key(line: &mut ArrayString<LINE_ROOM>, key: Key)
     requires room { array_string_len line.old + 40 ≤ LINE_ROOM }
-    ensures key { line.new.bytes ≡ line.old.bytes ++ blank ∷ texts.key_text key }
+    ensures key { line.new.bytes ≡ line.old.bytes ++ blank ∷ texts.file_key_text key }
     ensures at_most { array_string_len line.new ≤ array_string_len line.old + 40 }
 {
     match key {
@@ -52,7 +52,7 @@ fn put_place(line: &mut ArrayString<LINE_ROOM>, place: Place)
 /// Puts a name, and a key of a rule file.
 fn put_keyed(line: &mut ArrayString<LINE_ROOM>, word: &str, key: Key)
     requires room { array_string_len line.old + length word.now + 41 ≤ LINE_ROOM }
-    ensures keyed { line.new.bytes ≡ line.old.bytes ++ blank ∷ (word.now ++ blank ∷ texts.key_text key) }
+    ensures keyed { line.new.bytes ≡ line.old.bytes ++ blank ∷ (word.now ++ blank ∷ texts.file_key_text key) }
     ensures at_most { array_string_len line.new ≤ array_string_len line.old + length word.now + 41 }
 {
     put_word(line, word);

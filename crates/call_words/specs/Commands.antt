@@ -77,8 +77,8 @@ most_windows = 200
 abbrev pub windows_in : List ℕ → Option ℕ
 windows_in text = option_and_then (λ n. if nat_le 1 n then Some n else None) (number_up_to most_windows text)
 
--- true if a text is a rule for a command: a name, or `-` for a rule file. `calc` reads a script and `verify` a
--- list of tiles, so they take only a name.
+-- true if a text is a rule for a command: a name, or `-` for a rule file. `calc` reads a script and `verify`
+-- a list of tiles, so they take only a name.
 abbrev pub is_rule_for : Command → List ℕ → Bool
 is_rule_for Calc value = is_some (name_in value)
 is_rule_for Verify value = is_some (name_in value)
@@ -86,12 +86,13 @@ is_rule_for command value = is_some (choice_in value)
 
 -- if whole tiles are asked for: `yes` or `no`
 abbrev pub glue_in : List ℕ → Option Bool
-glue_in text = if bytes_eq text (codes "yes") then Some true else if bytes_eq text (codes "no") then Some false else None
+glue_in text = if bytes_eq text (codes "yes") then Some true else if bytes_eq text (codes "no") then Some
+    false else None
 
--- True if a value has the form of its key for a command: a rule that the command takes; any text as an address; a
--- number from 0 to 255 as an edge or a vertex; a seed of 64 bits; a depth of at most 64; numbers of edges as a
--- path; four coefficients as a centre; two numbers from 1 as half-width and half-height; formats with commas
--- between them; `yes` or `no` for glue; a number of windows from 1 to 200.
+-- True if a value has the form of its key for a command: a rule that the command takes; any text as an
+-- address; a number from 0 to 255 as an edge or a vertex; a seed of 64 bits; a depth of at most 64; numbers
+-- of edges as a path; four coefficients as a centre; two numbers from 1 as half-width and half-height;
+-- formats with commas between them; `yes` or `no` for glue; a number of windows from 1 to 200.
 abbrev pub has_form : Command → Key → List ℕ → Bool
 has_form command Rule value = is_rule_for command value
 has_form command Addr value = true

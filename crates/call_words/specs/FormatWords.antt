@@ -42,7 +42,9 @@ is_new format before = nat_lt (length before) most_formats && not (is_among form
 -- the formats before, and those that texts name, if each is new
 abbrev pub formats_behind : List Format → List (List ℕ) → Option (List Format)
 formats_behind before [] = Some before
-formats_behind before (piece ∷ rest) = option_and_then (λ f. if is_new f before then formats_behind (before ++ f ∷ []) rest else None) (format_named piece)
+formats_behind before (piece ∷ rest) =
+    option_and_then (λ f. if is_new f before then formats_behind (before ++ f ∷ []) rest else None)
+    (format_named piece)
 
 -- the formats that a text names: one to three different ones, with commas between them
 abbrev pub formats_in : List ℕ → Option (List Format)

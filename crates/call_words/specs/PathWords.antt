@@ -9,7 +9,8 @@ use Rattle.tile_shape.specs.Words.{texts_between}
 -- the numbers that texts are, if each is a number
 abbrev pub numbers : List (List ℕ) → Option (List ℕ)
 numbers [] = Some []
-numbers (piece ∷ rest) = option_and_then (λ n. option_map (λ ns. n ∷ ns) (numbers rest)) (number_up_to 255 piece)
+numbers (piece ∷ rest) =
+    option_and_then (λ n. option_map (λ ns. n ∷ ns) (numbers rest)) (number_up_to 255 piece)
 
 -- numbers before others
 abbrev pub put : List ℕ → Option (List ℕ) → Option (List ℕ)
@@ -21,7 +22,8 @@ longest_path = 1000
 
 -- the numbers, unless there are too many
 abbrev pub unless_long : Option (List ℕ) → Option (List ℕ)
-unless_long found = option_and_then (λ path. if nat_le (length path) longest_path then Some path else None) found
+unless_long found = option_and_then (λ path. if nat_le (length path) longest_path then Some path else None)
+    found
 
 -- the path that a text is
 abbrev pub path_in : List ℕ → Option (List ℕ)

@@ -64,4 +64,5 @@ with_value Vertex text v = record v { vertex = number_up_to 255 text }
 
 -- each value that arguments give has the form of its key
 abbrev pub HaveForms : Command → List (List ℕ) → Type 0
-HaveForms command words = (key : Key) (value : List ℕ) → value_given key words ≡ Some value → has_form command key value ≡ true
+HaveForms command words = (key : Key) (value : List ℕ) → value_given key words ≡ Some value
+    → has_form command key value ≡ true

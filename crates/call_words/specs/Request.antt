@@ -14,7 +14,8 @@ use Rattle.call_words.specs.Commands.{command_named}
 use Rattle.call_words.specs.Values.{Values, values_given, or_default, ◌>>=◌}
 use Rattle.call_words.specs.Words.{is_right}
 
--- a window as it is asked for: its centre, before it is reduced to the order, its half-width and its half-height
+-- a window as it is asked for: its centre, before it is reduced to the order, its half-width and its
+-- half-height
 pub record WindowAsked : Type 0 where
   pub at : Point
   pub half : HalfExtents
@@ -24,7 +25,8 @@ pub data Request : Type 0 where
   Place : (rule : RuleChoice) (addr : List ℕ) → Request
   Neighbour : (rule : RuleChoice) (addr : List ℕ) (edge : ℕ) → Request
   Walk : (rule : RuleChoice) (addr : List ℕ) (seed grow : ℕ) (path : List ℕ) → Request
-  Draw : (rule : RuleChoice) (addr : List ℕ) (seed : ℕ) (window : WindowAsked) (layers : List Format) (glue : Bool) → Request
+  Draw : (rule : RuleChoice) (addr : List ℕ) (seed : ℕ) (window : WindowAsked) (layers : List Format)
+      (glue : Bool) → Request
   Check : (rule : RuleChoice) → Request
   Calc : (name : Name) → Request
   Drill : (rule : RuleChoice) (count seed : ℕ) → Request
@@ -32,16 +34,16 @@ pub data Request : Type 0 where
   Verify : (name : Name) (addr : List ℕ) (seed : ℕ) (window : WindowAsked) → Request
 
 -- the rule of a request
-abbrev pub rule_of : Request → RuleChoice
-rule_of (Place rule addr) = rule
-rule_of (Neighbour rule addr edge) = rule
-rule_of (Walk rule addr seed grow path) = rule
-rule_of (Draw rule addr seed window layers glue) = rule
-rule_of (Check rule) = rule
-rule_of (Calc name) = Builtin name
-rule_of (Drill rule count seed) = rule
-rule_of (Star rule addr seed vertex) = rule
-rule_of (Verify name addr seed window) = Builtin name
+abbrev pub rule_asked : Request → RuleChoice
+rule_asked (Place rule addr) = rule
+rule_asked (Neighbour rule addr edge) = rule
+rule_asked (Walk rule addr seed grow path) = rule
+rule_asked (Draw rule addr seed window layers glue) = rule
+rule_asked (Check rule) = rule
+rule_asked (Calc name) = Builtin name
+rule_asked (Drill rule count seed) = rule
+rule_asked (Star rule addr seed vertex) = rule
+rule_asked (Verify name addr seed window) = Builtin name
 
 -- the formats that need a layer, in order; only `draw` has any
 abbrev pub formats_of : Request → List Format
@@ -69,7 +71,8 @@ asked_by command.Draw v = do
   at ← v.at
   half ← v.half
   layers ← v.layers
-  Some (Draw rule addr (or_default v.seed 0) (record { at = at; half = half }) layers (or_default v.glue false))
+  Some (Draw rule addr (or_default v.seed 0) (record { at = at; half = half }) layers
+      (or_default v.glue false))
 asked_by command.Check v = do
   rule ← v.rule
   Some (Check rule)
@@ -94,13 +97,17 @@ asked_by command.Verify v = do
   half ← v.half
   Some (Verify name addr (or_default v.seed 0) (record { at = at; half = half }))
 
--- What is asked for if the arguments `before` are right, or the position of the first wrong one of the others. It is
--- the number of arguments if a required key is missing.
+-- What is asked for if the arguments `before` are right, or the position of the first wrong one of the
+-- others. It is the number of arguments if a required key is missing.
 abbrev pub asked_behind : Command → List (List ℕ) → List (List ℕ) → Result Request ℕ
 asked_behind command before [] = ok_or (asked_by command (values_given before)) (length before)
-asked_behind command before (word ∷ words) = if is_right command before word then asked_behind command (before ++ word ∷ []) words else Err (length before)
+asked_behind command before (word ∷ words) =
+    if is_right command before word then asked_behind command (before ++ word ∷ []) words else Err
+    (length before)
 
--- what the arguments ask for, or the position of the first wrong one, counted from 0: the first if it names no command, or there are none
+-- what the arguments ask for, or the position of the first wrong one, counted from 0: the first if it names
+-- no command, or there are none
 abbrev pub request_in : List (List ℕ) → Result Request ℕ
 request_in [] = Err 0
-request_in (name ∷ words) = option_map_or (λ command. asked_behind command (name ∷ []) words) (command_named name) (Err 0)
+request_in (name ∷ words) =
+    option_map_or (λ command. asked_behind command (name ∷ []) words) (command_named name) (Err 0)

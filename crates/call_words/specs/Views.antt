@@ -17,7 +17,8 @@ window_of w = record { at = w.at; half = w.half }
 -- a question in the frame of the tile with an address, which grows by a seed
 abbrev pub question_of : List ℕ → ℕ → Question → Request
 question_of addr seed (question.Walk rule grow path) = Walk rule addr seed grow path.now
-question_of addr seed (question.Draw rule window layers glue) = Draw rule addr seed (window_of window) layers.items glue
+question_of addr seed (question.Draw rule window layers glue) =
+    Draw rule addr seed (window_of window) layers.items glue
 question_of addr seed (question.Star rule vertex) = Star rule addr seed vertex
 question_of addr seed (question.Verify name window) = Verify name addr seed (window_of window)
 
@@ -34,8 +35,8 @@ abbrev pub AnswersAs : {X Y : Type 0} → (X → Y) → Result X ℕ → Result 
 AnswersAs seen (Ok x) read = read ≡ Ok (seen x)
 AnswersAs seen (Err place) read = read ≡ Err place
 
--- A window as it is asked for: half-width and half-height are from 1 to 4,096, and no coefficient of the centre is
--- above 2^20 in absolute value.
+-- A window as it is asked for: half-width and half-height are from 1 to 4,096, and no coefficient of the
+-- centre is above 2^20 in absolute value.
 pub record IsWindowAsked (window : WindowWords) : Type 0 where
   pub centre : IsWithin (2 ^ 20) window.at
   pub half : FitWindow window.half

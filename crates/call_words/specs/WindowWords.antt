@@ -31,7 +31,8 @@ at_in text = point_of_texts coefficient_in (texts_between comma text)
 
 -- the half-width and half-height that two texts are
 abbrev pub extents_of_pieces : List (List ℕ) → Option HalfExtents
-extents_of_pieces (a ∷ b ∷ []) = option_and_then (λ w. option_map (λ h. record { w = w; h = h }) (extent_in b)) (extent_in a)
+extents_of_pieces (a ∷ b ∷ []) =
+    option_and_then (λ w. option_map (λ h. record { w = w; h = h }) (extent_in b)) (extent_in a)
 extents_of_pieces _ = None
 
 -- a half-width and a half-height, with a comma between them

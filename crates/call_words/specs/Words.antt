@@ -1,5 +1,5 @@
--- The arguments of a command line: a command, then `key=value` in any order. Each key is given at most once. In names,
--- *words* are the arguments.
+-- The arguments of a command line: a command, then `key=value` in any order. Each key is given at most once.
+-- In names, *words* are the arguments.
 use Rattle.std.specs.Prelude.{ℕ, Bool, false, not, ◌&&◌, List, [], ◌∷◌, map, length, string_bytes, Some, None, is_some, nat_lt, nat_eq, if◌then◌else◌}
 use Rattle.std.specs.declared.option.Option.{Option}
 use Rattle.std.specs.declared.string.String.{String}
@@ -21,7 +21,8 @@ is_equals c = nat_eq c 61
 -- the value that an argument gives a key: what follows its first `=`, if the key's name is before it
 abbrev pub value_in : Key → List ℕ → Option (List ℕ)
 value_in key word =
-    if nat_lt (position_or_len is_equals word) (length word) && bytes_eq (before_first is_equals word) (key_text key)
+    if nat_lt (position_or_len is_equals word) (length word)
+    && bytes_eq (before_first is_equals word) (key_text key)
     then Some (after_first is_equals word) else None
 
 -- the value that the first argument with this key gives it
@@ -29,8 +30,10 @@ abbrev pub value_given : Key → List (List ℕ) → Option (List ℕ)
 value_given key [] = None
 value_given key (word ∷ words) = option_map_or Some (value_in key word) (value_given key words)
 
--- True if an argument is right after those before it: it gives a value to a key of the command, which has no value
--- yet, and the value has the key's form.
+-- True if an argument is right after those before it: it gives a value to a key of the command, which has no
+-- value yet, and the value has the key's form.
 abbrev pub is_right : Command → List (List ℕ) → List ℕ → Bool
 is_right command before word =
-    list_any (λ key. option_map_or (λ value. not (is_some (value_given key before)) && has_form command key value) (value_in key word) false) (keys_of command)
+    list_any (λ key. option_map_or
+    (λ value. not (is_some (value_given key before)) && has_form command key value) (value_in key word) false)
+    (keys_of command)

@@ -1,6 +1,6 @@
 //! The request that the arguments of a call make.
 ghost use Rattle.std.specs.Prelude.{◌≡◌, ℕ, List, IfOk};
-ghost use Rattle.call_words.specs.Request.{request_in, rule_of, formats_of};
+ghost use Rattle.call_words.specs.Request.{request_in, rule_asked, formats_of};
 ghost use Rattle.call_words.specs.Views.{AnswersAs, IsWithinForms, question_of, request_of};
 ghost use Rattle.call_words.specs.Words.{texts};
 ghost use Rattle.call_words.specs.WrongWord.{place_refused, wrong_place};
@@ -82,7 +82,7 @@ pub enum Question<'a> {
 impl<'a> Question<'a> {
     /// Returns the choice of the rule.
     fn rule(&self) -> RuleChoice
-        ensures { (addr : List ℕ) (seed : ℕ) → result ≡ rule_of (question_of addr seed self.now) }
+        ensures { (addr : List ℕ) (seed : ℕ) → result ≡ rule_asked (question_of addr seed self.now) }
     {
         match self {
             Question::Walk { rule, .. } => *rule,
@@ -96,7 +96,7 @@ impl<'a> Question<'a> {
 impl<'a> Request<'a> {
     /// Returns the choice of the rule.
     pub fn rule(&self) -> RuleChoice
-        ensures { result ≡ rule_of (request_of self.now) }
+        ensures { result ≡ rule_asked (request_of self.now) }
     {
         match self {
             Request::Place { rule, .. } => *rule,

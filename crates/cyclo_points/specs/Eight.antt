@@ -15,7 +15,13 @@ mul_eight R p q = record {
 }
 
 abbrev pub ring_eight : Ops → Ops
-ring_eight R = record { carrier = Quad R.carrier; add = add_quad R; mul = mul_eight R; neg = neg_quad R; int = int_quad R }
+ring_eight R = record {
+  carrier = Quad R.carrier;
+  add = add_quad R;
+  mul = mul_eight R;
+  neg = neg_quad R;
+  int = int_quad R;
+}
 
 -- the conjugates of ζ, ζ² and ζ³ are -ζ³, -ζ² and -ζ
 abbrev pub conj_eight : (R : Ops) → Quad R.carrier → Quad R.carrier

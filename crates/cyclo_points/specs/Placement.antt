@@ -9,4 +9,5 @@ use Rattle.cyclo_points.specs.Order.{NumberOf, points_of}
 -- under every rule, the motion listed with an address that fits, in the list of its supertile's tiles, is
 -- that of Horner's scheme
 abbrev pub PlacementLaw : Order → Type 0
-PlacementLaw o = (r : Rule (NumberOf o)) (a : Address) → Fits (child_kinds r) a → StandsBeside (points_of o) r a (placement (points_of o) r a.digits)
+PlacementLaw o = (r : Rule (NumberOf o)) (a : Address) → Fits (child_kinds r) a
+    → StandsBeside (points_of o) r a (placement (points_of o) r a.digits)

@@ -8,10 +8,19 @@ use Rattle.cyclo_points.specs.Pairs.{add_pair, neg_pair, int_pair, zeta_pair, sa
 
 -- products are reduced by ζ² = ζ - 1
 abbrev pub mul_six : (R : Ops) → Pair R.carrier → Pair R.carrier → Pair R.carrier
-mul_six R p q = record { a = difference R (R.mul p.a q.a) (R.mul p.b q.b); b = R.add (R.add (R.mul p.a q.b) (R.mul p.b q.a)) (R.mul p.b q.b) }
+mul_six R p q = record {
+  a = difference R (R.mul p.a q.a) (R.mul p.b q.b);
+  b = R.add (R.add (R.mul p.a q.b) (R.mul p.b q.a)) (R.mul p.b q.b);
+}
 
 abbrev pub ring_six : Ops → Ops
-ring_six R = record { carrier = Pair R.carrier; add = add_pair R; mul = mul_six R; neg = neg_pair R; int = int_pair R }
+ring_six R = record {
+  carrier = Pair R.carrier;
+  add = add_pair R;
+  mul = mul_six R;
+  neg = neg_pair R;
+  int = int_pair R;
+}
 
 -- the conjugate of ζ is 1 - ζ
 abbrev pub conj_six : (R : Ops) → Pair R.carrier → Pair R.carrier

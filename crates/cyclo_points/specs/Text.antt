@@ -33,7 +33,9 @@ number_text o z = coefficients_text (coefficients o z)
 
 -- the point of four coefficients, if there are all four
 abbrev pub point_of_coefficients : Option ℤ → Option ℤ → Option ℤ → Option ℤ → Option Point
-point_of_coefficients a b c d = option_and_then (λ x. option_and_then (λ y. option_and_then (λ z. option_map (λ w. record { c = x ∷ y ∷ z ∷ w ∷ [] }) d) c) b) a
+point_of_coefficients a b c d =
+    option_and_then (λ x. option_and_then
+    (λ y. option_and_then (λ z. option_map (λ w. record { c = x ∷ y ∷ z ∷ w ∷ [] }) d) c) b) a
 
 -- the point that four texts are, by what each is read as
 abbrev pub point_of_texts : (List ℕ → Option ℤ) → List (List ℕ) → Option Point

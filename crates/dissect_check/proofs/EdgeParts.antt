@@ -7,7 +7,7 @@ use Rattle.theory_substitution.specs.RuleParts.{parts, edge_count, edge_type}
 use Rattle.theory_edge_to_edge.specs.Edges as theory
 use Rattle.theory_edge_to_edge.specs.Edges.{child_edges, inflated_edge, inflated_edges}
 use Rattle.theory_edge_to_edge.specs.Boundary.{boundary_among, parts_along, parts_of_edge}
-use Rattle.theory_edge_to_edge.specs.Contacts.{name_of, parts_or_none}
+use Rattle.theory_edge_to_edge.specs.Contacts.{edge_name, parts_or_none}
 use Rattle.cyclo_points.specs.Order.{points_of}
 use Rattle.edge_tables.specs.declared.child_edge.ChildEdge.{ChildEdge}
 use Rattle.edge_tables.specs.Views.{as_child_edge}
@@ -31,7 +31,7 @@ no_fault k e found names (Ok ss) is h = refl
 no_fault k e found names (Err j) is h = let g = ap as_parts is in absurd (cc)
 
 pub found_names : {A : Type 0} (found : Result (Vec ChildEdge Global) ℕ) (names : Vec ChildEdge Global) (r : Result (List (theory.PlacedEdge A)) ℕ)
-    → found ≡ Ok names → as_parts found ≡ names_of r → map as_child_edge names.items ≡ map name_of (parts_or_none r)
+    → found ≡ Ok names → as_parts found ≡ names_of r → map as_child_edge names.items ≡ map edge_name (parts_or_none r)
 found_names found names (Ok ss) is h = let g = ap as_parts is in cc
 found_names found names (Err j) is h = let g = ap as_parts is in absurd (cc)
 

@@ -6,7 +6,7 @@ use Rattle.theory_substitution.specs.Points.{Points}
 use Rattle.theory_edge_to_edge.specs.Edges.{Edge, PlacedEdge}
 use Rattle.theory_edge_to_edge.specs.Boundary.{in_front, parts_from, parts_along}
 use Rattle.theory_addresses.specs.Contact.{ChildEdge}
-use Rattle.theory_edge_to_edge.specs.Contacts.{name_of}
+use Rattle.theory_edge_to_edge.specs.Contacts.{edge_name}
 use Rattle.dissect_check.specs.declared.few.Few.{Few}
 use Rattle.dissect_check.specs.declared.few.Few.TheVariants.{None, One, Many}
 use Rattle.dissect_check.specs.Few.{few_of}
@@ -19,8 +19,8 @@ in_front_all xs (Ok ys) = Ok (xs ++ ys)
 in_front_all xs (Err j) = Err j
 
 pub in_front_all-names : {A : Type 0} (xs : List ChildEdge) (s : PlacedEdge A) (r : Result (List (PlacedEdge A)) ℕ)
-    → in_front_all xs (names_of (in_front s r)) ≡ in_front_all (xs ++ name_of s ∷ []) (names_of r)
-in_front_all-names xs s (Ok ss) = ap Ok (sym (append_assoc xs (name_of s ∷ []) (map name_of ss)))
+    → in_front_all xs (names_of (in_front s r)) ≡ in_front_all (xs ++ edge_name s ∷ []) (names_of r)
+in_front_all-names xs s (Ok ss) = ap Ok (sym (append_assoc xs (edge_name s ∷ []) (map edge_name ss)))
 in_front_all-names xs s (Err j) = refl
 
 -- one edge, or not just one, under a view
@@ -126,7 +126,7 @@ module _ (P : Points) (on : List (PlacedEdge P.ring.carrier)) (whole : Edge P.ri
 
   pub IsFound-next : (names : List ChildEdge) (j : ℕ) (p : P.ring.carrier) (s : PlacedEdge P.ring.carrier)
       → j < length types → few_of (filter (begins P p) on) ≡ One s
-      → nat_eq s.type (get_or types j 0) ≡ true → IsFound names j p → IsFound (names ++ name_of s ∷ []) (j + 1) s.line.to
+      → nat_eq s.type (get_or types j 0) ≡ true → IsFound names j p → IsFound (names ++ edge_name s ∷ []) (j + 1) s.line.to
   IsFound-next names j p s l h t found =
       sym (in_front_all-names names s (from_part (j + 1) s.line.to))
       ∙ ap (λ k. in_front_all names (names_of (in_front s (parts_from P on whole.to (length types) (drop (j + 1) types) k s.line.to)))) (add-one j)

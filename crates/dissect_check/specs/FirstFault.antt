@@ -37,7 +37,8 @@ module _ (o : Order) (l : theory.Rule Point) where
 
   -- the limits of a type, then those of all types
   abbrev pub type_limits : ℕ → Option CheckFault
-  type_limits ty = first_some (unless (is_type l (mate l ty)) (TooMany (Mate ty)) ∷ unless (parts_fit l ty) (TooMany (Parts ty)) ∷ [])
+  type_limits ty = first_some
+      (unless (is_type l (mate l ty)) (TooMany (Mate ty)) ∷ unless (parts_fit l ty) (TooMany (Parts ty)) ∷ [])
 
   abbrev pub types_limits : Option CheckFault
   types_limits = first_below type_limits (length l.types)
@@ -67,7 +68,8 @@ module _ (o : Order) (l : theory.Rule Point) where
 
   -- each prototile is star-shaped
   abbrev pub stars : Option CheckFault
-  stars = first_below (λ k. unless (is_star (points_of o) (vertices_of numbers k)) (NotStar k)) (length numbers.kinds)
+  stars = first_below (λ k. unless (is_star (points_of o) (vertices_of numbers k)) (NotStar k))
+      (length numbers.kinds)
 
   -- the mate's mate is the type
   abbrev pub mates : Option CheckFault
@@ -75,18 +77,21 @@ module _ (o : Order) (l : theory.Rule Point) where
 
   -- each edge is as long as the first of its type or its mate
   abbrev pub lengths_of_kind : ℕ → Option CheckFault
-  lengths_of_kind k = first_below (λ e. unless (has_length_of_type (points_of o) numbers k e) (BadLength k e)) (edge_count numbers k)
+  lengths_of_kind k = first_below (λ e. unless (has_length_of_type (points_of o) numbers k e) (BadLength k e))
+      (edge_count numbers k)
 
   abbrev pub lengths : Option CheckFault
   lengths = first_below lengths_of_kind (length numbers.kinds)
 
   -- subdivisions of mates mirror each other
   abbrev pub subdivisions : Option CheckFault
-  subdivisions = first_below (λ ty. unless (is_mirrored numbers ty) (BadSubdivision ty)) (length numbers.types)
+  subdivisions = first_below (λ ty. unless (is_mirrored numbers ty) (BadSubdivision ty))
+      (length numbers.types)
 
   -- a child edge of kind k may not be loose
   abbrev pub loose_fault : ℕ → PlacedEdge (NumberOf o) → Option CheckFault
-  loose_fault k s = unless (not (is_loose (lie_of (points_of o) numbers k s))) (ChildEdgeLoose k s.child s.edge)
+  loose_fault k s = unless (not (is_loose (lie_of (points_of o) numbers k s)))
+      (ChildEdgeLoose k s.child s.edge)
 
   -- no child edge is loose, in the order of child and edge
   abbrev pub loose_of_kind : ℕ → Option CheckFault
@@ -97,7 +102,8 @@ module _ (o : Order) (l : theory.Rule Point) where
 
   -- the boundary child edges of each inflated edge are its parts
   abbrev pub boundary_of_kind : ℕ → Option CheckFault
-  boundary_of_kind k = first_below (λ e. part_fault k e (parts_of_edge (points_of o) numbers k e)) (edge_count numbers k)
+  boundary_of_kind k = first_below (λ e. part_fault k e (parts_of_edge (points_of o) numbers k e))
+      (edge_count numbers k)
 
   abbrev pub boundaries : Option CheckFault
   boundaries = first_below boundary_of_kind (length numbers.kinds)
@@ -108,17 +114,20 @@ module _ (o : Order) (l : theory.Rule Point) where
 
   -- each glue type glues two halves
   abbrev pub glues : Option CheckFault
-  glues = first_below (λ i. unless (glues_halves numbers i) (GlueWrong (glue_type numbers i))) (length numbers.glue)
+  glues = first_below (λ i. unless (glues_halves numbers i) (GlueWrong (glue_type numbers i)))
+      (length numbers.glue)
 
 module _ (edition : Edition) (o : Order) (l : theory.Rule Point) where
   -- the inflation factor, as the edition allows it
   abbrev pub factor : Option CheckFault
-  factor = unless (is_inflation_factor (points_of o) (as_edition edition) (is_refused o) (numbers o l).factor) WrongFactor
+  factor = unless (is_inflation_factor (points_of o) (as_edition edition) (is_refused o) (numbers o l).factor)
+      WrongFactor
 
   -- all ten clauses, in their order
   abbrev pub fault_of_lists : Option CheckFault
   fault_of_lists = first_some (
-      limits o l ∷ stars o l ∷ factor ∷ mates o l ∷ lengths o l ∷ subdivisions o l ∷ loose_edges o l ∷ boundaries o l ∷ uses o l ∷ glues o l ∷ [])
+      limits o l ∷ stars o l ∷ factor ∷ mates o l ∷ lengths o l ∷ subdivisions o l ∷ loose_edges o l ∷
+      boundaries o l ∷ uses o l ∷ glues o l ∷ [])
 
 -- the first fault of a rule, by its own edition, order and lists
 abbrev pub first_fault : Rule → Option CheckFault

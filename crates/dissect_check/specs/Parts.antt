@@ -24,5 +24,6 @@ AreFew v = length v.items ≤ 8
 
 -- these are the names of the parts of each edge of kind k
 pub record AreParts (r : Rule) (k : ℕ) (parts : List (Vec ChildEdge Global)) : Type 0 where
-  pub names : map (λ v. map as_child_edge v.items) parts ≡ below (named_parts (points_of r.order) (rule_of r) k) (edge_count (rule_of r) k)
+  pub names : map (λ v. map as_child_edge v.items) parts
+      ≡ below (named_parts (points_of r.order) (rule_of r) k) (edge_count (rule_of r) k)
   pub few : All AreFew parts

@@ -44,7 +44,8 @@ pub record IsInflated (r : Rule) (k : ℕ) (i : Inflated) : Type 0 where
   pub wholes_small : All (IsSmallLine r.order) i.wholes.items
   pub edges : map (edge_in r.order) i.edges.items ≡ child_edges (points_of r.order) (rule_of r) k
   pub edges_fit : All (IsFit r) i.edges.items
-  pub lies : map as_lie i.lies.items ≡ map (lie_of (points_of r.order) (rule_of r) k) (child_edges (points_of r.order) (rule_of r) k)
+  pub lies : map as_lie i.lies.items
+      ≡ map (lie_of (points_of r.order) (rule_of r) k) (child_edges (points_of r.order) (rule_of r) k)
 
 -- these are the inflated prototiles of the first n kinds
 pub record AreInflated (r : Rule) (n : ℕ) (parents : List Inflated) : Type 0 where

@@ -13,14 +13,14 @@ pub(crate) struct PlacedEdge {
 
 impl PlacedEdge {
     ghost use Rattle.std.specs.Prelude.{◌≡◌};
-    ghost use Rattle.theory_edge_to_edge.specs.Contacts.{name_of};
+    ghost use Rattle.theory_edge_to_edge.specs.Contacts.{edge_name};
     ghost use Rattle.cyclo_points.specs.declared.order.Order.{Order};
     ghost use Rattle.edge_tables.specs.Views.{as_child_edge};
     ghost use Rattle.dissect_check.specs.Views.{edge_in};
 
     /// The child's number and the edge's.
     pub(crate) fn name(&self) -> ChildEdge
-        ensures { (o : Order) → as_child_edge result ≡ name_of (edge_in o self.now) }
+        ensures { (o : Order) → as_child_edge result ≡ edge_name (edge_in o self.now) }
     {
         ChildEdge {
             child: self.child,

@@ -26,4 +26,8 @@ as_kind_tables r = record {
 }
 
 abbrev pub as_tables : Vec ℕ Global → Vec (Vec ℕ Global) Global → Vec KindRows Global → Tables
-as_tables mates subs rows = record { mates = mates.items; subs = map (λ v. v.items) subs.items; kinds = map as_kind_tables rows.items }
+as_tables mates subs rows = record {
+  mates = mates.items;
+  subs = map (λ v. v.items) subs.items;
+  kinds = map as_kind_tables rows.items;
+}

@@ -11,14 +11,14 @@ use Rattle.std.proofs.lemmas.Bool.{cases_lt}
 use Rattle.std.proofs.lemmas.List.Elements.{All-nil, All-push}
 use Rattle.std.proofs.lemmas.List.Sorted.{Contains-permutation, All-permutation}
 use Rattle.std.proofs.Math.Seq.{get_or-append_seam}
-use Rattle.tile_place.specs.Keys.{key_of, are_level, pair_of}
+use Rattle.tile_place.specs.Keys.{key_of, are_level, packed_pair}
 use Rattle.tile_place.specs.declared.order_key.OrderKey.{OrderKey}
 use Rattle.tile_place.proofs.KeyOrder.{comes-first, level-numbers}
 use Rattle.half_glue.specs.declared.whole_tile.WholeTile.{WholeTile}
-use Rattle.half_glue.specs.Arranged.{AreArranged}
-use Rattle.half_glue.specs.InOrder.{first_numbers, ComesBefore, AreInOrder}
+use Rattle.half_glue.specs.Arranged.{AreWholesArranged}
+use Rattle.half_glue.specs.InOrder.{first_numbers, ComesBeforeWhole, AreWholesInOrder}
 use Rattle.theory_addresses.specs.Search.{chosen_below}
-use Rattle.half_glue.specs.Keys.{HasKey, first_keys, key_order, no_key, is_new, whole_at}
+use Rattle.half_glue.specs.Keys.{HasTileKey, first_keys, whole_order, no_key, is_new_key, whole_at}
 use Rattle.half_glue.proofs.Keyed.{IsKeyOf, from-keys, key-there}
 
 -- ---- lists
@@ -35,13 +35,14 @@ contains-last xs x = (length xs, omega (arith, length-append xs (x ∷ [])), get
 
 -- the words of a key, by the numbers of its tile
 abbrev high_of : List ℤ → ℕ
-high_of ns = pair_of (get_or ns 0 (pos 0)) (get_or ns 1 (pos 0))
+high_of ns = packed_pair (get_or ns 0 (pos 0)) (get_or ns 1 (pos 0))
 
 abbrev low_of : List ℤ → ℕ
-low_of ns = (pair_of (get_or ns 2 (pos 0)) (get_or ns 3 (pos 0)) * 2 ^ 4 + nat_abs (get_or ns 4 (pos 0))) * 2 ^ 8 + nat_abs (get_or ns 5 (pos 0))
+low_of ns = (packed_pair (get_or ns 2 (pos 0)) (get_or ns 3 (pos 0)) * 2 ^ 4 + nat_abs (get_or ns 4 (pos 0))) * 2 ^ 8 + nat_abs (get_or ns 5 (pos 0))
 
 -- ---- the order, one whole tile more
-in-order-push : (ws : List WholeTile) (v w : WholeTile) → AreInOrder (ws ++ v ∷ []) → ComesBefore v w → AreInOrder ((ws ++ v ∷ []) ++ w ∷ [])
+in-order-push : (ws : List WholeTile) (v w : WholeTile) → AreWholesInOrder (ws ++ v ∷ []) → ComesBeforeWhole v w
+    → AreWholesInOrder ((ws ++ v ∷ []) ++ w ∷ [])
 in-order-push [] v w o b = (b, tt)
 in-order-push (u ∷ []) v w o b = (o.0, (b, tt))
 in-order-push (u ∷ x ∷ ws) v w o b = (o.0, in-order-push (x ∷ ws) v w o.1 b)
@@ -50,8 +51,8 @@ in-order-push (u ∷ x ∷ ws) v w o b = (o.0, in-order-push (x ∷ ws) v w o.1 
 abbrev IsKey : List WholeTile → OrderKey → Type 0
 IsKey made = IsKeyOf (λ (w : WholeTile). w.first) made
 
-module _ (made : List WholeTile) (fit : All (λ w. HasKey w.first) made) (ks : List OrderKey)
-    (keys : All (IsKey made) ks) (sorted : IsSorted key_order ks) (blank : WholeTile) where
+module _ (made : List WholeTile) (fit : All (λ w. HasTileKey w.first) made) (ks : List OrderKey)
+    (keys : All (IsKey made) ks) (sorted : IsSorted whole_order ks) (blank : WholeTile) where
   abbrev at : ℕ → WholeTile
   at i = whole_at made blank ks i
 
@@ -59,7 +60,7 @@ module _ (made : List WholeTile) (fit : All (λ w. HasKey w.first) made) (ks : L
   key i = get_or ks i no_key
 
   abbrev chosen : ℕ → List WholeTile
-  chosen n = chosen_below (is_new ks) at n
+  chosen n = chosen_below (is_new_key ks) at n
 
   numbered : (i : ℕ) → i < length ks → IsKey made (key i)
   numbered i l = keys i no_key l
@@ -67,7 +68,7 @@ module _ (made : List WholeTile) (fit : All (λ w. HasKey w.first) made) (ks : L
   its-key : (i : ℕ) → i < length ks → key i ≡ key_of (at i).first.motion (at i).first.kind (key i).number
   its-key i l = (numbered i l).is blank
 
-  has-key : (i : ℕ) → i < length ks → HasKey (at i).first
+  has-key : (i : ℕ) → i < length ks → HasTileKey (at i).first
   has-key i l = fit (key i).number blank (numbered i l).below
 
   at-made : (i : ℕ) → i < length ks → Contains made (at i)
@@ -82,14 +83,14 @@ module _ (made : List WholeTile) (fit : All (λ w. HasKey w.first) made) (ks : L
       (its-key i (omega (arith, l)))
       (eqb-true (key (suc i)).high (key i).high both.0) (eqb-true (key (suc i)).low (key i).low both.1)
 
-  before : (i : ℕ) → suc i < length ks → are_level (key (suc i)) (key i) ≡ false → ComesBefore (at i) (at (suc i))
+  before : (i : ℕ) → suc i < length ks → are_level (key (suc i)) (key i) ≡ false → ComesBeforeWhole (at i) (at (suc i))
   before i l e =
       comes-first (at i).first.motion (at (suc i)).first.motion (at i).first.kind (at (suc i)).first.kind
       (key i) (key (suc i)) (has-key i (omega (arith, l))) (has-key (suc i) l)
       (its-key i (omega (arith, l))) (its-key (suc i) l) up (λ same. absurd (cc (sym e ∙ are-level same)))
     where
-      up : is_lt (key_order (key (suc i)) (key i)) ≡ false
-      up = let next : i + 1 ≡ suc i = omega arith in subst (λ n. is_lt (key_order (key n) (key i)) ≡ false)
+      up : is_lt (whole_order (key (suc i)) (key i)) ≡ false
+      up = let next : i + 1 ≡ suc i = omega arith in subst (λ n. is_lt (whole_order (key n) (key i)) ≡ false)
           next (sorted i no_key (omega arith) (omega (arith, l)))
 
       are-level : first_numbers (at i) ≡ first_numbers (at (suc i)) → are_level (key (suc i)) (key i) ≡ true
@@ -103,16 +104,17 @@ module _ (made : List WholeTile) (fit : All (λ w. HasKey w.first) made) (ks : L
 
   -- the whole tiles chosen of the first keys: in order, the last of them with the numbers of the last key, and one with the numbers of each key
   pub record AreChosen (n : ℕ) : Type 0 where
-    pub in_order : AreInOrder (chosen n)
+    pub in_order : AreWholesInOrder (chosen n)
     pub from_made : All (λ w. Contains made w) (chosen n)
     pub each : (i : ℕ) → i < n → (w : WholeTile) × Contains (chosen n) w × (first_numbers w ≡ first_numbers (at i))
     pub last : (i : ℕ) → n ≡ suc i → (front : List WholeTile) × (w : WholeTile) × (chosen n ≡ front ++ w ∷ [])
         × (first_numbers w ≡ first_numbers (at i))
 
   -- one more
-  taken : (n : ℕ) → n < length ks → AreChosen n → AreInOrder (chosen n ++ at n ∷ []) → chosen (suc n) ≡ chosen n ++ at n ∷ [] → AreChosen (suc n)
+  taken : (n : ℕ) → n < length ks → AreChosen n → AreWholesInOrder (chosen n ++ at n ∷ []) → chosen (suc n) ≡ chosen n ++ at n ∷ []
+      → AreChosen (suc n)
   taken n l c ordered e = record {
-    in_order = subst AreInOrder (sym e) ordered;
+    in_order = subst AreWholesInOrder (sym e) ordered;
     from_made = subst (All (λ w. Contains made w)) (sym e) (All-push (λ w. Contains made w) (chosen n) (at n) c.from_made (at-made n l));
     each = λ i b. elim (cases_lt i n) [
       | inl k ↦ let f = c.each i k in (
@@ -136,7 +138,7 @@ module _ (made : List WholeTile) (fit : All (λ w. HasKey w.first) made) (ks : L
   passed : (i : ℕ) → suc i < length ks → AreChosen (suc i) → first_numbers (at (suc i)) ≡ first_numbers (at i)
       → chosen (suc (suc i)) ≡ chosen (suc i) → AreChosen (suc (suc i))
   passed i l c same e = record {
-    in_order = subst AreInOrder (sym e) c.in_order;
+    in_order = subst AreWholesInOrder (sym e) c.in_order;
     from_made = subst (All (λ w. Contains made w)) (sym e) c.from_made;
     each = λ j b. elim (cases_lt j (suc i)) [
       | inl k ↦ let f = c.each j k in (f.0, subst (λ (ws : List WholeTile). Contains ws f.0) (sym e) f.1, f.2)
@@ -148,7 +150,7 @@ module _ (made : List WholeTile) (fit : All (λ w. HasKey w.first) made) (ks : L
   }
 
   pub are-chosen : (n : ℕ) → n ≤ length ks → AreChosen n
-  unfolding is_new
+  unfolding is_new_key
   are-chosen zero l = record {
     in_order = tt;
     from_made = All-nil (λ w. Contains made w);
@@ -163,24 +165,24 @@ module _ (made : List WholeTile) (fit : All (λ w. HasKey w.first) made) (ks : L
           (ap (λ b. chosen (suc i) ++ cond (not b) (at (suc i) ∷ []) []) e ∙ append-nil (chosen (suc i)))
       step false e c =
           let f = c.last i refl in
-          let next : ComesBefore f.1 (at (suc i)) = ap
+          let next : ComesBeforeWhole f.1 (at (suc i)) = ap
           (λ ns. slice_cmp int_cmp ns (first_numbers (at (suc i)))) f.3 ∙ before i (omega (arith, l)) e in
           taken (suc i) (omega (arith, l)) c
-          (subst (λ (ws : List WholeTile). AreInOrder (ws ++ at (suc i) ∷ [])) (sym f.2)
-          (in-order-push f.0 f.1 (at (suc i)) (subst AreInOrder f.2 c.in_order) next))
+          (subst (λ (ws : List WholeTile). AreWholesInOrder (ws ++ at (suc i) ∷ [])) (sym f.2)
+          (in-order-push f.0 f.1 (at (suc i)) (subst AreWholesInOrder f.2 c.in_order) next))
           (ap (λ b. chosen (suc i) ++ cond (not b) (at (suc i) ∷ []) []) e)
 
 -- ---- all of them
-pub arranged-in_order : (made : List WholeTile) → All (λ w. HasKey w.first) made → (ks : List OrderKey)
-    → IsPermutation (first_keys made) ks → IsSorted key_order ks → (blank : WholeTile)
-    → AreInOrder (chosen_below (is_new ks) (whole_at made blank ks) (length ks))
+pub arranged-in_order : (made : List WholeTile) → All (λ w. HasTileKey w.first) made → (ks : List OrderKey)
+    → IsPermutation (first_keys made) ks → IsSorted whole_order ks → (blank : WholeTile)
+    → AreWholesInOrder (chosen_below (is_new_key ks) (whole_at made blank ks) (length ks))
 arranged-in_order made fit ks p sorted blank
     = (are-chosen made fit ks (All-permutation (IsKey made) (first_keys made) ks p
     (from-keys (λ (w : WholeTile). w.first) [] made 0 refl)) sorted blank (length ks) (omega arith)).in_order
 
-pub arranged-same : (made : List WholeTile) → All (λ w. HasKey w.first) made → (ks : List OrderKey)
-    → IsPermutation (first_keys made) ks → IsSorted key_order ks → (blank : WholeTile)
-    → AreArranged made (chosen_below (is_new ks) (whole_at made blank ks) (length ks))
+pub arranged-same : (made : List WholeTile) → All (λ w. HasTileKey w.first) made → (ks : List OrderKey)
+    → IsPermutation (first_keys made) ks → IsSorted whole_order ks → (blank : WholeTile)
+    → AreWholesArranged made (chosen_below (is_new_key ks) (whole_at made blank ks) (length ks))
 arranged-same made fit ks p sorted blank = record { from_made = all.from_made; each = each }
   where
     keys : All (IsKey made) ks
@@ -190,7 +192,7 @@ arranged-same made fit ks p sorted blank = record { from_made = all.from_made; e
     all = are-chosen made fit ks keys sorted blank (length ks) (omega arith)
 
     each : All (λ v. (w : WholeTile) × Contains
-        (chosen_below (is_new ks) (whole_at made blank ks) (length ks)) w
+        (chosen_below (is_new_key ks) (whole_at made blank ks) (length ks)) w
         × (first_numbers w ≡ first_numbers v)) made
     each i d l =
         let k = key_of (get_or made i d).first.motion (get_or made i d).first.kind i in

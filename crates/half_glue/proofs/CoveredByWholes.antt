@@ -24,15 +24,15 @@ use Rattle.theory_windows.specs.FrameLaws.{FramePatchLaw}
 use Rattle.theory_windows.specs.Laws.{WholesLaw}
 use Rattle.theory_windows.specs.Outlines.{Polygon}
 use Rattle.theory_windows.specs.Patch.{IsDissected}
-use Rattle.theory_windows.specs.WholeTiles.{WholeTile as PatchWhole, AreGlued, WholesCover as PatchWholesCover}
+use Rattle.theory_windows.specs.WholeTiles.{WholeTile as PatchWhole, CountAsTheirParts, WholesCoverBox as PatchWholesCover}
 use Rattle.theory_walks.specs.Frames.{FrameValue, whole, IsFrameOf}
 use Rattle.theory_walks.proofs.Walks.{whole-fits}
 use Rattle.half_glue.specs.declared.whole_tile.WholeTile.{WholeTile}
 use Rattle.half_glue.specs.Checked.{HasGlueLaws}
 use Rattle.half_glue.specs.Covering.{BoxOf, TilesCover, WholesCover, WholesCoverLaw, all_parts}
 use Rattle.half_glue.specs.Given.{lifted_tile}
-use Rattle.half_glue.specs.InOrder.{AreInOrder}
-use Rattle.half_glue.specs.Outline.{parts_by, parts_of, polygon_of_whole, WholesCountLaw}
+use Rattle.half_glue.specs.InOrder.{AreWholesInOrder}
+use Rattle.half_glue.specs.Outline.{parts_by, whole_parts, polygon_of_whole, WholesCountLaw}
 use Rattle.half_glue.specs.WholeTiles.{IsWholeBy, IsWholeTile, IsOneOf, IsPartOf, AreWholeTilesOf}
 use Rattle.half_glue.proofs.Growing.{settled}
 use Rattle.half_glue.proofs.PartsOnce.{all-among, parts-once}
@@ -73,7 +73,7 @@ module _ (t : Tiling) where
 
   -- a whole tile, as one of a patch
   abbrev in_patch : WholeTile → PatchWhole S T
-  in_patch w = record { parts = map (placed_in t.order) (parts_of w); outline = polygon_of_whole t w }
+  in_patch w = record { parts = map (placed_in t.order) (whole_parts w); outline = polygon_of_whole t w }
 
   -- a tile lifted has its polygon
   lifted-counted : (g : FrameValue) (p : TestPoint S.ops.carrier) (tiles : List PlacedTile)
@@ -99,7 +99,7 @@ module _ (t : Tiling) where
     is-part y a (Some b) (inr e) = inr (inl (sym e))
 
     module _ (law : WholesCountLaw t) (is : IsFrameOf t g) (tiles : List PlacedTile) (wholes : List WholeTile)
-        (of : AreWholeTilesOf t g tiles wholes) (in_order : AreInOrder wholes) where
+        (of : AreWholeTilesOf t g tiles wholes) (in_order : AreWholesInOrder wholes) where
       abbrev parts : PatchWhole S T → List T
       parts w = w.parts
 
@@ -109,24 +109,24 @@ module _ (t : Tiling) where
       are-whole : (w : WholeTile) → IsAmong w wholes → IsWholeTile t g w
       are-whole = all-among (IsWholeTile t g) wholes of.whole
 
-      are-glued : AreGlued S T (frame_patch P t.rule (whole g)) (map (lifted_tile t g) tiles) (map in_patch wholes)
+      are-glued : CountAsTheirParts S T (frame_patch P t.rule (whole g)) (map (lifted_tile t g) tiles) (map in_patch wholes)
       are-glued = record {
         of_patch = subst (AllByRecursion (λ y. IsAmong y (frame_tiles P t.rule (whole g)))) (sym same-parts)
             (AllByRecursion-from (λ y. IsAmong y (frame_tiles P t.rule (whole g))) (all_parts t wholes) (λ y i.
-            let p = among-flat_map (λ w. map (placed_in t.order) (parts_of w)) y wholes i in
+            let p = among-flat_map (λ w. map (placed_in t.order) (whole_parts w)) y wholes i in
             part-of_frame p.piece.first p.piece.second (are-whole p.piece p.among) y p.inside));
         counts = AllByRecursion-map (λ (w : PatchWhole S T). (p : TestPoint S.ops.carrier)
             → count S w.outline p ≡ sum_over (λ y. count S (polygon y) p) w.parts) in_patch wholes
             (AllByRecursion-from (λ w. (p : TestPoint S.ops.carrier)
             → count S (polygon_of_whole t w) p ≡ sum_over (λ y. count S (polygon y) p)
-            (map (placed_in t.order) (parts_of w))) wholes
-            (λ w i p. law g w is (are-whole w i) p ∙ sym (images-summed (placed_in t.order) (λ y. count S (polygon y) p) (parts_of w))));
+            (map (placed_in t.order) (whole_parts w))) wholes
+            (λ w i p. law g w is (are-whole w i) p ∙ sym (images-summed (placed_in t.order) (λ y. count S (polygon y) p) (whole_parts w))));
         once = subst AreDistinct (sym same-parts) (parts-once t g wholes of.whole in_order);
         all = subst (λ ys. AllByRecursion (λ y. IsAmong y ys) (map (lifted_tile t g) tiles)) (sym same-parts)
             (AllByRecursion-map (λ y. IsAmong y (all_parts t wholes)) (lifted_tile t g) tiles
             (AllByRecursion-from (λ x. IsAmong (lifted_tile t g x) (all_parts t wholes)) tiles (λ x i.
             let j = all-among (λ x. (w : WholeTile) × Contains wholes w × IsPartOf t g w x) tiles of.each_joined x i in
-            IsAmong-flat_map (λ w. map (placed_in t.order) (parts_of w)) j.0 (lifted_tile t g x) wholes
+            IsAmong-flat_map (λ w. map (placed_in t.order) (whole_parts w)) j.0 (lifted_tile t g x) wholes
             (contains-among wholes j.0 j.1) (is-part (lifted_tile t g x) j.0.first j.0.second j.2))));
       }
 

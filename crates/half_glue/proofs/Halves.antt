@@ -28,7 +28,7 @@ use Rattle.theory_walks.proofs.Walks.{whole-fits, later}
 use Rattle.half_glue.specs.Checked.{HasGlueLaws}
 use Rattle.half_glue.specs.Found.{AreGlued}
 use Rattle.half_glue.specs.Given.{IsGiven}
-use Rattle.half_glue.specs.Keys.{HasKey}
+use Rattle.half_glue.specs.Keys.{HasTileKey}
 use Rattle.half_glue.specs.Limits.{CanBeJoined}
 use Rattle.half_glue.proofs.Across.{glue-edge-there, kind-there, crosses, crosses-back, other-side}
 use Rattle.half_glue.proofs.Growing.{crosses-on, stands-on, lifted-on}
@@ -88,7 +88,7 @@ module _ (m : Rule) (L : HasGlueLaws m) where
     its-kind-there = subst (λ k. k < length t.rule.kinds) (sym given.its_kind) (kind-there m L a given-whole.fits)
 
     -- its numbers are small enough for a key
-    pub given-key : HasKey x
+    pub given-key : HasTileKey x
     given-key = record {
       within = given.within;
       turn_fits = let l = given.turn_below in let k = order-fits m.order in omega (arith, l, k);

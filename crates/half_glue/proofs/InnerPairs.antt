@@ -21,9 +21,9 @@ use Rattle.half_glue.specs.declared.glue_side.OtherSide.{OtherSide}
 use Rattle.half_glue.specs.declared.pairs.Pair.{Pair}
 use Rattle.half_glue.specs.Checked.{HasGlueLaws}
 use Rattle.half_glue.specs.Depth.{IsGluedInside}
-use Rattle.half_glue.specs.Found.{no_tile, tile_of, StandsAmong, AreGlued}
+use Rattle.half_glue.specs.Found.{no_tile, given_tile, StandsAmong, AreGlued}
 use Rattle.half_glue.specs.Given.{IsGiven, AreGiven}
-use Rattle.half_glue.specs.Inner.{IsPlaced, IsOfPair, IsInner, AreInner, AreRising}
+use Rattle.half_glue.specs.Inner.{IsTilePlaced, IsOfPair, IsInnerPair, AreInner, AreRising}
 use Rattle.half_glue.specs.Keys.{no_pair}
 use Rattle.half_glue.specs.Limits.{CanBeJoined}
 use Rattle.half_glue.specs.Pairs.{ArePresent, second_of, loose_of, AreLoose, IsEither, IsLoose, IsTaken}
@@ -37,7 +37,7 @@ use Rattle.half_glue.proofs.Wholes.{contains-map, glued-back}
 
 -- tiles given are placed
 pub are-placed : (m : Rule) → HasGlueLaws m → (f : FrameValue) → IsFrameOf (tiling_of m) f
-    → (tiles : List PlacedTile) → AreGiven (tiling_of m) f tiles → All (IsPlaced (tiling_of m)) tiles
+    → (tiles : List PlacedTile) → AreGiven (tiling_of m) f tiles → All (IsTilePlaced (tiling_of m)) tiles
 are-placed m L f is tiles given k d l =
     let own = given k d l in
     record { kind_exists = its-kind-there m L f is (get_or tiles k d) own; turn_below = own.turn_below; within = own.within }
@@ -50,21 +50,21 @@ among-below o (Some side) own tiles n there = slice_get_within tiles n there.2.0
 
 pub among-kind : (o : Order) (s : Option OtherSide) (side : OtherSide) → s ≡ Some side
     → (own : Motion) (tiles : List PlacedTile) (n : ℕ) → StandsAmong o s own tiles n
-    → side.kind ≡ (tile_of tiles n).kind
+    → side.kind ≡ (given_tile tiles n).kind
 among-kind o s side e own tiles n h =
     let there = subst (λ q. StandsAmong o q own tiles n) e h in
     let z = there.2.0 in
-    let numbers : order_numbers there.0 side.kind ≡ numbers_placed (tile_of tiles n) = sym there.2.2
+    let numbers : order_numbers there.0 side.kind ≡ numbers_placed (given_tile tiles n) = sym there.2.2
     ∙ ap numbers_placed (sym (get_or_from_slice_get tiles n z no_tile there.2.1)) in
-    same_whole side.kind (tile_of tiles n).kind (ap (λ (ns : List ℤ). get_or ns 5 (pos 0)) numbers)
+    same_whole side.kind (given_tile tiles n).kind (ap (λ (ns : List ℤ). get_or ns 5 (pos 0)) numbers)
 
 -- ---- the side of a kind that was read
 pub read-below : (t : Tiling) (sides : List (Option GlueSide)) → AreSides t sides → (x : PlacedTile)
-    → IsPlaced t x → (k n : ℕ) → n ≡ k → k ≡ x.kind → n < length sides
+    → IsTilePlaced t x → (k n : ℕ) → n ≡ k → k ≡ x.kind → n < length sides
 read-below t sides are x placed k n e same = let l = placed.kind_exists in let s = are.each_kind in omega (arith, l, s, e, same)
 
 pub read-other : (t : Tiling) (sides : List (Option GlueSide)) → AreSides t sides → (x : PlacedTile)
-    → IsPlaced t x → (k n : ℕ) → n ≡ k → k ≡ x.kind → (side : GlueSide) → get_or sides n None ≡ Some side
+    → IsTilePlaced t x → (k n : ℕ) → n ≡ k → k ≡ x.kind → (side : GlueSide) → get_or sides n None ≡ Some side
     → IfSome side.other (IsOtherSide t k side.edge)
 read-other t sides are x placed k n e same side its =
     let here = subst (IsSideOf t n) its (are.each n (read-below t sides are x placed k n e same)) in
@@ -84,7 +84,7 @@ module _ (m : Rule) (L : HasGlueLaws m) (tiles : List PlacedTile) (sides : List 
   t = tiling_of m
 
   abbrev own : PlacedTile
-  own = tile_of tiles number
+  own = given_tile tiles number
 
   among : Contains tiles own
   among = (number, below, get_or_default tiles number own no_tile below)
@@ -92,9 +92,9 @@ module _ (m : Rule) (L : HasGlueLaws m) (tiles : List PlacedTile) (sides : List 
   module _ (f : FrameValue) (is : IsFrameOf t f) (given : AreGiven t f tiles) where
     -- a tile alone
     pub alone-inner : (k : ℕ) → k ≡ own.kind → get_or sides k None ≡ None → (p : Pair)
-        → p ≡ record { first = number; second = None } → IsInner t f tiles p
+        → p ≡ record { first = number; second = None } → IsInnerPair t f tiles p
     alone-inner k same none p e =
-        subst (IsInner t f tiles) (sym e) (record {
+        subst (IsInnerPair t f tiles) (sym e) (record {
           present = record { first = below; second = tt };
           loose = record {
             glued = (
@@ -110,12 +110,12 @@ module _ (m : Rule) (L : HasGlueLaws m) (tiles : List PlacedTile) (sides : List 
     pub pair-inner : (k : ℕ) → k ≡ own.kind → (side : GlueSide) → get_or sides k None ≡ Some side
         → (other : OtherSide) → side.other ≡ Some other → own.kind < other.kind
         → (n : ℕ) → StandsAmong m.order side.other own.motion tiles n → (p : Pair)
-        → p ≡ record { first = number; second = Some n } → IsInner t f tiles p
+        → p ≡ record { first = number; second = Some n } → IsInnerPair t f tiles p
     pair-inner k same side its other is_other lesser n there p e =
         let found = half-found m L f is tiles given sides are number below side
         (own-side m L f is tiles given sides are number below k same (Some side) its) n there in
         let kind = among-kind m.order side.other other is_other own.motion tiles n there in
-        subst (IsInner t f tiles) (sym e) (record {
+        subst (IsInnerPair t f tiles) (sym e) (record {
           present = record { first = below; second = found.0 };
           loose = record {
             glued = (
@@ -131,10 +131,10 @@ module _ (m : Rule) (L : HasGlueLaws m) (tiles : List PlacedTile) (sides : List 
 
 -- ---- one pair more
 pub inner-more : (t : Tiling) (f : FrameValue) (tiles : List PlacedTile) (pairs : List Pair)
-    (taken marked : List Bool) (p : Pair) → AreInner t f tiles pairs taken → IsInner t f tiles p
+    (taken marked : List Bool) (p : Pair) → AreInner t f tiles pairs taken → IsInnerPair t f tiles p
     → ((k : ℕ) → IsTrue (get_or marked k false) → IsTrue (get_or taken k false) ⊎ IsOfPair k p) → AreInner t f tiles (pairs ++ p ∷ []) marked
 inner-more t f tiles pairs taken marked p h is marks = record {
-  each = All-push (IsInner t f tiles) pairs p h.each is;
+  each = All-push (IsInnerPair t f tiles) pairs p h.each is;
   taken = λ k set. elim (marks k set) [
     | inl b ↦ let r = h.taken k b in (r.0, Contains-append_left pairs (p ∷ []) r.0 r.1, r.2)
     | inr b ↦ (p, Contains-push pairs p, b)
@@ -174,7 +174,7 @@ none-rising = record { few = omega arith; below = λ k d l. absurd (omega (arith
 
 pub none-inner : (t : Tiling) (f : FrameValue) (tiles : List PlacedTile) (taken : List Bool)
     → ((k : ℕ) → ¬ IsTrue (get_or taken k false)) → AreInner t f tiles [] taken
-none-inner t f tiles taken none = record { each = All-nil (IsInner t f tiles); taken = λ k set. absurd (none k set) }
+none-inner t f tiles taken none = record { each = All-nil (IsInnerPair t f tiles); taken = λ k set. absurd (none k set) }
 
 -- ---- a tile that is taken
 module _ (m : Rule) (L : HasGlueLaws m) (f : FrameValue) (is : IsFrameOf (tiling_of m) f)
@@ -203,20 +203,20 @@ module _ (m : Rule) (L : HasGlueLaws m) (f : FrameValue) (is : IsFrameOf (tiling
   of-loose x a (Some b) l (inl e) = subst Q e (glued a b l.0 l.1 l.2)
   of-loose x a (Some b) l (inr e) = subst Q e (glued b a l.1 l.0 (glued-back u f a b l.2))
 
-  module _ (all : List PlacedTile) (same : (n : ℕ) → n < length tiles → tile_of all n ≡ tile_of tiles n) where
+  module _ (all : List PlacedTile) (same : (n : ℕ) → n < length tiles → given_tile all n ≡ given_tile tiles n) where
     either : (k : ℕ) (p : Pair) → ArePresent (length tiles) p → IsOfPair k p
-        → IsEither (tile_of tiles k) (tile_of all p.first) (second_of all p.second)
+        → IsEither (given_tile tiles k) (given_tile all p.first) (second_of all p.second)
     either k p present of = by p.second refl present.second of
       where
-        first : p.first ≡ k → tile_of all p.first ≡ tile_of tiles k
-        first e = same p.first present.first ∙ ap (tile_of tiles) e
+        first : p.first ≡ k → given_tile all p.first ≡ given_tile tiles k
+        first e = same p.first present.first ∙ ap (given_tile tiles) e
 
         by : (s : Option ℕ) → p.second ≡ s → IfSome s (λ n. n < length tiles) → (p.first ≡ k) ⊎ (s ≡ Some k)
-            → IsEither (tile_of tiles k) (tile_of all p.first) (second_of all s)
+            → IsEither (given_tile tiles k) (given_tile all p.first) (second_of all s)
         by None e l (inl g) = first g
         by None e l (inr g) = absurd (cc g)
         by (Some n) e l (inl g) = inl (first g)
-        by (Some n) e l (inr g) = let there : n ≡ k = ap (λ o. unwrapped o) g in inr (same n l ∙ ap (tile_of tiles) there)
+        by (Some n) e l (inr g) = let there : n ≡ k = ap (λ o. unwrapped o) g in inr (same n l ∙ ap (given_tile tiles) there)
           where
             unwrapped : Option ℕ → ℕ
             unwrapped None = n
@@ -224,21 +224,21 @@ module _ (m : Rule) (L : HasGlueLaws m) (f : FrameValue) (is : IsFrameOf (tiling
 
   -- is inside, and can be joined
   pub taken-settled : (k : ℕ) → IsTrue (get_or taken k false)
-      → IsGluedInside u f (length f.digits) (tile_of tiles k) × CanBeJoined u (full u f) (tile_of tiles k)
+      → IsGluedInside u f (length f.digits) (given_tile tiles k) × CanBeJoined u (full u f) (given_tile tiles k)
   taken-settled k set =
       let r = h.taken k set in
       let p : Pair = r.0 in
-      let inner = All-contains (IsInner u f tiles) pairs p h.each r.1 in
-      of-loose (tile_of tiles k) (tile_of tiles p.first) (second_of tiles p.second) inner.loose.glued
+      let inner = All-contains (IsInnerPair u f tiles) pairs p h.each r.1 in
+      of-loose (given_tile tiles k) (given_tile tiles p.first) (second_of tiles p.second) inner.loose.glued
       (either tiles (λ n l. refl) k p inner.present r.2)
 
   -- and of a pair, whatever tiles and pairs come behind
   pub taken-too : (crossed : List PlacedTile) (outer : List Pair) (k : ℕ) → IsTrue (get_or taken k false)
-      → IsTaken u f tiles (map (loose_of (tiles ++ crossed)) (pairs ++ outer)) (tile_of tiles k)
+      → IsTaken u f tiles (map (loose_of (tiles ++ crossed)) (pairs ++ outer)) (given_tile tiles k)
   taken-too crossed outer k set =
       let r = h.taken k set in
       let p : Pair = r.0 in
-      let inner = All-contains (IsInner u f tiles) pairs p h.each r.1 in
+      let inner = All-contains (IsInnerPair u f tiles) pairs p h.each r.1 in
       let all : List PlacedTile = tiles ++ crossed in
       inl (
         loose_of all p,
@@ -255,10 +255,10 @@ module _ (m : Rule) (L : HasGlueLaws m) (f : FrameValue) (is : IsFrameOf (tiling
     few_crossed = omega arith;
     given = subst (All (IsGiven u f)) (sym plain) given;
     present = subst (λ (xs : List PlacedTile). All (ArePresent (length xs)) pairs) (sym plain)
-        (All-weaker (IsInner u f tiles) (ArePresent (length tiles)) (λ p i. i.present) pairs h.each);
+        (All-weaker (IsInnerPair u f tiles) (ArePresent (length tiles)) (λ p i. i.present) pairs h.each);
     loose = subst (λ (xs : List PlacedTile). All (IsLoose u f tiles) (map (loose_of xs) pairs)) (sym plain)
         (All-map (IsLoose u f tiles) (loose_of tiles) pairs
-        (All-weaker (IsInner u f tiles) (λ p. IsLoose u f tiles (loose_of tiles p)) (λ p i. i.loose) pairs
+        (All-weaker (IsInnerPair u f tiles) (λ p. IsLoose u f tiles (loose_of tiles p)) (λ p i. i.loose) pairs
         h.each));
     taken = λ k l. absurd (omega (arith, l));
   })

@@ -7,7 +7,7 @@ use Rattle.tile_place.specs.Keys.{key_of, are_level}
 use Rattle.tile_place.specs.declared.order_key.OrderKey.{OrderKey}
 use Rattle.tile_place.specs.declared.placed_tile.PlacedTile.{PlacedTile}
 use Rattle.theory_addresses.specs.Search.{chosen_below}
-use Rattle.half_glue.specs.Keys.{keys_by, no_key, is_new}
+use Rattle.half_glue.specs.Keys.{keys_by, no_key, is_new_key}
 
 module _ {A : Type 0} (tile : A → PlacedTile) where
   -- one key more
@@ -58,14 +58,14 @@ module _ {A : Type 0} (tile : A → PlacedTile) where
       (suc rest.0, omega (arith, rest.1), rest.2)
 
 -- ---- keys that aren't level with the one before
-pub is_new-first : (ks : List OrderKey) (p : ℕ) → p ≡ 0 → true ≡ is_new ks p
-unfolding is_new
+pub is_new-first : (ks : List OrderKey) (p : ℕ) → p ≡ 0 → true ≡ is_new_key ks p
+unfolding is_new_key
 is_new-first ks zero e = refl
 is_new-first ks (suc p) e = absurd (omega (arith, e))
 
 pub is_new-behind : (ks : List OrderKey) (p : ℕ) (b : Bool) → (p ≡ 0 → ⊥)
-    → b ≡ are_level (get_or ks p no_key) (get_or ks (p - 1) no_key) → not b ≡ is_new ks p
-unfolding is_new
+    → b ≡ are_level (get_or ks p no_key) (get_or ks (p - 1) no_key) → not b ≡ is_new_key ks p
+unfolding is_new_key
 is_new-behind ks zero b positive e = absurd (positive refl)
 is_new-behind ks (suc p) b positive e =
     let before : suc p - 1 ≡ p = omega arith in

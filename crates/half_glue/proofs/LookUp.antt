@@ -41,9 +41,9 @@ use Rattle.theory_windows.proofs.Members.{same_whole}
 use Rattle.half_glue.specs.declared.glue_side.GlueSide.{GlueSide}
 use Rattle.half_glue.specs.declared.glue_side.OtherSide.{OtherSide}
 use Rattle.half_glue.specs.Checked.{HasGlueLaws}
-use Rattle.half_glue.specs.Found.{no_tile, tile_of, IsBeside, StandsBeside, AreGlued}
+use Rattle.half_glue.specs.Found.{no_tile, given_tile, IsBeside, KeyStandsBeside, AreGlued}
 use Rattle.half_glue.specs.Given.{IsGiven}
-use Rattle.half_glue.specs.Keys.{HasKey, own_keys, AreKeysOf}
+use Rattle.half_glue.specs.Keys.{HasTileKey, own_keys, AreKeysOf}
 use Rattle.half_glue.specs.Sides.{IsOtherSide, IsSide}
 use Rattle.half_glue.proofs.Alike.{quad_at}
 use Rattle.half_glue.proofs.Growing.{settled}
@@ -51,15 +51,15 @@ use Rattle.half_glue.proofs.Halves.{given-whole, given-key, glue-edge-of, glued-
 use Rattle.half_glue.proofs.Keyed.{IsKeyOf, from-keys}
 
 -- a key found is that of the tile of its number
-pub key-found : (tiles : List PlacedTile) (keys : List OrderKey) → AreKeysOf tiles keys → All HasKey tiles
+pub key-found : (tiles : List PlacedTile) (keys : List OrderKey) → AreKeysOf tiles keys → All HasTileKey tiles
     → (m : program.Motion) (k n : ℕ) → FitsKey m k → Contains keys (key_of m k n)
-    → (n < length tiles) × (order_numbers m k ≡ order_numbers (tile_of tiles n).motion (tile_of tiles n).kind)
+    → (n < length tiles) × (order_numbers m k ≡ order_numbers (given_tile tiles n).motion (given_tile tiles n).kind)
 key-found tiles keys are fit m k n fits c =
     let own : All (IsKeyOf (λ (x : PlacedTile). x) tiles) keys = All-permutation
     (IsKeyOf (λ (x : PlacedTile). x) tiles) (own_keys tiles) keys are.same
     (from-keys (λ (x : PlacedTile). x) [] tiles 0 refl) in
     let key = subst (IsKeyOf (λ (x : PlacedTile). x) tiles) c.2 (own c.0 (key_of m k n) c.1) in
-    let y = tile_of tiles n in
+    let y = given_tile tiles n in
     (key.below, level-numbers m y.motion k y.kind (key_of m k n) (key_of m k n) fits (fit n no_tile key.below) refl (key.is no_tile) refl refl)
 
 module _ (m : Rule) (L : HasGlueLaws m) where
@@ -171,12 +171,12 @@ module _ (m : Rule) (L : HasGlueLaws m) where
   -- the tile given of the number found is the other half
   module _ (f : FrameValue) (is : IsFrameOf t f) (tiles : List PlacedTile) (given : All (IsGiven t f) tiles)
       (keys : List OrderKey) (are : AreKeysOf tiles keys) (x : PlacedTile) (own : IsGiven t f x) where
-    fit : All HasKey tiles
+    fit : All HasTileKey tiles
     fit i d l = given-key m L f is (get_or tiles i d) (given i d l)
 
     beside-known : (e n : ℕ) → IsGlueEdge t.rule x.kind e → (o : Option OtherSide)
-        → IfSome o (IsOtherSide t x.kind e) → StandsBeside m.order o x.motion keys n → (n < length tiles)
-        × AreGlued t f x (tile_of tiles n)
+        → IfSome o (IsOtherSide t x.kind e) → KeyStandsBeside m.order o x.motion keys n → (n < length tiles)
+        × AreGlued t f x (given_tile tiles n)
     beside-known e n glue_edge None side there = absurd there
     beside-known e n glue_edge (Some o) side there =
         let exists = kind-with_edge P t.rule o.kind side.back_edge side.glue_edge.exists in
@@ -186,17 +186,17 @@ module _ (m : Rule) (L : HasGlueLaws m) where
           kind_fits = let k = L.usable.numbered.at_most_16_kinds in omega (arith, exists, k);
         } in
         let found = key-found tiles keys are fit there.0 o.kind n fits there.2 in
-        (found.0, beside-glued f is x (tile_of tiles n) own (given n no_tile found.0) e o side there.0 there.1 found.1 glue_edge)
+        (found.0, beside-glued f is x (given_tile tiles n) own (given n no_tile found.0) e o side there.0 there.1 found.1 glue_edge)
 
     pub given-glued : (side : GlueSide) (n : ℕ) → IsSide t x.kind side
-        → StandsBeside m.order side.other x.motion keys n → (n < length tiles)
-        × AreGlued t f x (tile_of tiles n)
+        → KeyStandsBeside m.order side.other x.motion keys n → (n < length tiles)
+        × AreGlued t f x (given_tile tiles n)
     given-glued side n is there = beside-known side.edge n is.only.glue_edge side.other is.other there
 
 -- what is found by the other side is found by what a kind has
 pub each-number : (o : Order) (s : Option OtherSide) (side : OtherSide) → s ≡ Some side
     → (own m : program.Motion) → IsBeside o side own m → (keys : List OrderKey) (x : Option ℕ)
     → IfSome x (λ n. Contains keys (key_of m side.kind n))
-    → IfSome x (StandsBeside o s own keys)
+    → IfSome x (KeyStandsBeside o s own keys)
 each-number o s side e own m beside keys None h = tt
-each-number o s side e own m beside keys (Some n) h = subst (λ q. StandsBeside o q own keys n) (sym e) (m, beside, h)
+each-number o s side e own m beside keys (Some n) h = subst (λ q. KeyStandsBeside o q own keys n) (sym e) (m, beside, h)

@@ -7,8 +7,8 @@ use Rattle.tile_place.specs.declared.placed_tile.PlacedTile.{PlacedTile}
 use Rattle.theory_walks.specs.Frames.{FrameValue}
 use Rattle.half_glue.specs.declared.pairs.Pair.{Pair}
 use Rattle.half_glue.specs.declared.whole_tile.WholeTile.{WholeTile}
-use Rattle.half_glue.specs.Arranged.{AreArranged}
-use Rattle.half_glue.specs.InOrder.{first_numbers, AreInOrder}
+use Rattle.half_glue.specs.Arranged.{AreWholesArranged}
+use Rattle.half_glue.specs.InOrder.{first_numbers, AreWholesInOrder}
 use Rattle.half_glue.specs.Keys.{no_pair}
 use Rattle.half_glue.specs.Lifted.{whole_of, wholes_of}
 use Rattle.half_glue.specs.Merged.{pair_numbers, pair_of_number, ArePairsInOrder, AreMerged}
@@ -24,7 +24,7 @@ all-right P xs ys all k d l = subst P (get_or-append-add xs ys k d) (all (length
 
 module _ (f : FrameValue) (all : List PlacedTile) where
   -- pairs are in order where their whole tiles are
-  pub wholes-order : (ps : List Pair) → AreInOrder (wholes_of f all ps) → ArePairsInOrder all ps
+  pub wholes-order : (ps : List Pair) → AreWholesInOrder (wholes_of f all ps) → ArePairsInOrder all ps
   wholes-order [] o i j l h = absurd (omega (arith, h))
   wholes-order (p ∷ []) o i j l h = absurd (omega (arith, l, h))
   wholes-order (p ∷ q ∷ ps) o zero zero l h = absurd (omega (arith, l))
@@ -36,7 +36,7 @@ module _ (f : FrameValue) (all : List PlacedTile) where
   wholes-order (p ∷ q ∷ ps) o (suc i) zero l h = absurd (omega (arith, l))
   wholes-order (p ∷ q ∷ ps) o (suc i) (suc j) l h = wholes-order (q ∷ ps) o.1 i j (omega (arith, l)) (omega (arith, h))
 
-  pub order-wholes : (ps : List Pair) → ArePairsInOrder all ps → AreInOrder (wholes_of f all ps)
+  pub order-wholes : (ps : List Pair) → ArePairsInOrder all ps → AreWholesInOrder (wholes_of f all ps)
   order-wholes [] o = tt
   order-wholes (p ∷ []) o = tt
   order-wholes (p ∷ q ∷ ps) o = (
@@ -47,8 +47,8 @@ module _ (f : FrameValue) (all : List PlacedTile) where
 
   -- the pairs merged have the whole tiles of both lists, those with one first tile but once
   pub merged-arranged : (inner outer sorted pairs : List Pair)
-      → AreArranged (wholes_of f all outer) (wholes_of f all sorted) → AreMerged all inner sorted pairs
-      → AreArranged (wholes_of f all (inner ++ outer)) (wholes_of f all pairs)
+      → AreWholesArranged (wholes_of f all outer) (wholes_of f all sorted) → AreMerged all inner sorted pairs
+      → AreWholesArranged (wholes_of f all (inner ++ outer)) (wholes_of f all pairs)
   merged-arranged inner outer sorted pairs h g = record {
     from_made = All-map (Contains made) (whole_of f all) pairs (All-weaker _ (λ p. Contains made (whole_of f all p)) from pairs g.from);
     each = subst (All Has) (sym both) (All-append Has (wholes_of f all inner) (wholes_of f all outer)

@@ -12,7 +12,7 @@ use Rattle.std.proofs.lemmas.List.Elements.{All-push, Contains-get_or, Contains-
 use Rattle.tile_place.specs.declared.placed_tile.PlacedTile.{PlacedTile}
 use Rattle.window_cover.specs.InOrder as covered
 use Rattle.half_glue.specs.declared.pairs.Pair.{Pair}
-use Rattle.half_glue.specs.Found.{tile_of}
+use Rattle.half_glue.specs.Found.{given_tile}
 use Rattle.half_glue.specs.Inner.{AreRising}
 use Rattle.half_glue.specs.Keys.{no_pair}
 use Rattle.half_glue.specs.Merged.{pair_numbers, pair_of_number, PairComesBefore, ArePairsInOrder, AreMerged, IsMerging}
@@ -28,14 +28,14 @@ turned ns ks e = total.antisymm ks ns ∙ ap ordering_reverse e
 
 -- of tiles in order each comes before each one behind it
 tiles-far : (tiles : List PlacedTile) → covered.AreInOrder tiles → (i j : ℕ) → i < j → j < length tiles
-    → covered.ComesBefore (tile_of tiles i) (tile_of tiles j)
+    → covered.ComesBefore (given_tile tiles i) (given_tile tiles j)
 tiles-far [] o i j l h = absurd (omega (arith, h))
 tiles-far (a ∷ []) o i j l h = absurd (omega (arith, l, h))
 tiles-far (a ∷ b ∷ tiles) o zero zero l h = absurd (omega (arith, l))
 tiles-far (a ∷ b ∷ tiles) o zero (suc zero) l h = o.0
 tiles-far (a ∷ b ∷ tiles) o zero (suc (suc j)) l h =
     total.trans (covered.numbers_placed a) (covered.numbers_placed b)
-    (covered.numbers_placed (tile_of (b ∷ tiles) (suc j))) o.0
+    (covered.numbers_placed (given_tile (b ∷ tiles) (suc j))) o.0
     (tiles-far (b ∷ tiles) o.1 zero (suc j) (omega arith) (omega (arith, h)))
 tiles-far (a ∷ b ∷ tiles) o (suc i) zero l h = absurd (omega (arith, l))
 tiles-far (a ∷ b ∷ tiles) o (suc i) (suc j) l h = tiles-far (b ∷ tiles) o.1 i j (omega (arith, l)) (omega (arith, h))

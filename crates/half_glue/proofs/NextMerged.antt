@@ -10,7 +10,7 @@ use Rattle.tile_place.specs.Keys.{order_numbers}
 use Rattle.tile_place.specs.declared.placed_tile.PlacedTile.{PlacedTile}
 use Rattle.window_cover.specs.InOrder as covered
 use Rattle.half_glue.specs.declared.pairs.Pair.{Pair}
-use Rattle.half_glue.specs.Found.{tile_of}
+use Rattle.half_glue.specs.Found.{given_tile}
 use Rattle.half_glue.specs.Inner.{AreRising}
 use Rattle.half_glue.specs.Keys.{no_pair}
 use Rattle.half_glue.specs.Merged.{pair_numbers, pair_of_number, PairComesBefore, ArePairsInOrder, AreMerged, IsMerging, IsPlaceAmong}
@@ -18,8 +18,8 @@ use Rattle.half_glue.proofs.Merging.{total, turned, same-numbers, rising-all, le
 
 -- what is read of the first tile of a pair
 pub numbers-of : (all : List PlacedTile) (pairs : List Pair) (n : ℕ) (d : Pair) → n < length pairs
-    → (v : Motion) (k : ℕ) → v ≡ (tile_of all (get_or pairs n d).first).motion
-    → k ≡ (tile_of all (get_or pairs n d).first).kind
+    → (v : Motion) (k : ℕ) → v ≡ (given_tile all (get_or pairs n d).first).motion
+    → k ≡ (given_tile all (get_or pairs n d).first).kind
     → order_numbers v k ≡ pair_numbers all (pair_of_number pairs n)
 numbers-of all pairs n d l v k e g = ap₂ order_numbers e g ∙ ap (pair_numbers all) (get_or_default pairs n d no_pair l)
 

@@ -11,7 +11,7 @@ use Rattle.theory_walks.proofs.Walks.{GrowsTo-self}
 use Rattle.half_glue.specs.declared.glue_side.GlueSide.{GlueSide}
 use Rattle.half_glue.specs.declared.half.Found.TheVariants.{Alone, Given}
 use Rattle.half_glue.specs.Checked.{HasGlueLaws}
-use Rattle.half_glue.specs.Found.{no_tile, tile_of, StandsBeside, AreGlued, IsJoined}
+use Rattle.half_glue.specs.Found.{no_tile, given_tile, KeyStandsBeside, AreGlued, IsJoined}
 use Rattle.half_glue.specs.Given.{IsGiven}
 use Rattle.half_glue.specs.Keys.{AreKeysOf}
 use Rattle.half_glue.specs.Sides.{IsSide, IsSideOf, AreSides}
@@ -27,7 +27,7 @@ module _ (m : Rule) (L : HasGlueLaws m) (f : FrameValue) (is : IsFrameOf (tiling
   t = tiling_of m
 
   abbrev y : PlacedTile
-  y = tile_of tiles number
+  y = given_tile tiles number
 
   own : IsGiven t f y
   own = given number no_tile below
@@ -68,8 +68,8 @@ module _ (m : Rule) (L : HasGlueLaws m) (f : FrameValue) (is : IsFrameOf (tiling
 
   -- one whose other half is given
   module _ (keys : List OrderKey) (keyed : AreKeysOf tiles keys) (side : GlueSide)
-      (its : IsSide t y.kind side) (n : ℕ) (there : StandsBeside m.order side.other y.motion keys n) where
-    given-found : (n < length tiles) × AreGlued t f y (tile_of tiles n)
+      (its : IsSide t y.kind side) (n : ℕ) (there : KeyStandsBeside m.order side.other y.motion keys n) where
+    given-found : (n < length tiles) × AreGlued t f y (given_tile tiles n)
     given-found = given-glued m L f is tiles given keys keyed y own side n its there
 
     pub given-joined : IsJoined t f f tiles y (Given n)
@@ -78,6 +78,6 @@ module _ (m : Rule) (L : HasGlueLaws m) (f : FrameValue) (is : IsFrameOf (tiling
         let grows = GrowsTo-self t f is in
         record {
           found = given-found;
-          inside = settled-inside m L f is y own f grows (tile_of tiles n) other given-found.1;
-          can_be_joined = settled-joined m L f is y own f grows (tile_of tiles n) other given-found.1;
+          inside = settled-inside m L f is y own f grows (given_tile tiles n) other given-found.1;
+          can_be_joined = settled-joined m L f is y own f grows (given_tile tiles n) other given-found.1;
         }

@@ -17,8 +17,8 @@ use Rattle.theory_windows.proofs.Members.{distinct-append}
 use Rattle.theory_walks.specs.Frames.{FrameValue}
 use Rattle.half_glue.specs.declared.whole_tile.WholeTile.{WholeTile}
 use Rattle.half_glue.specs.Covering.{all_parts, PartsOnceLaw}
-use Rattle.half_glue.specs.InOrder.{first_numbers, ComesBefore, AreInOrder}
-use Rattle.half_glue.specs.Outline.{parts_of}
+use Rattle.half_glue.specs.InOrder.{first_numbers, ComesBeforeWhole, AreWholesInOrder}
+use Rattle.half_glue.specs.Outline.{whole_parts}
 use Rattle.half_glue.specs.WholeTiles.{IsWholeTile}
 use Rattle.half_glue.proofs.SharedParts.{same-numbers, one-first, own-distinct, first-stands}
 
@@ -30,15 +30,15 @@ all-among Q (y ∷ ys) h x (inl e) = subst Q (sym e) (h 0 x (omega arith))
 all-among Q (y ∷ ys) h x (inr i) = all-among Q ys (λ k d l. h (suc k) d (omega (arith, l))) x i
 
 -- ---- the order
-before-later : (u v w : WholeTile) → ComesBefore u v → ComesBefore v w → ComesBefore u w
+before-later : (u v w : WholeTile) → ComesBeforeWhole u v → ComesBeforeWhole v w → ComesBeforeWhole u w
 before-later u v w = (lists_total int_cmp_total).trans (first_numbers u) (first_numbers v) (first_numbers w)
 
-before-each : (v : WholeTile) (ws : List WholeTile) → AreInOrder (v ∷ ws) → (w : WholeTile) → IsAmong w ws → ComesBefore v w
+before-each : (v : WholeTile) (ws : List WholeTile) → AreWholesInOrder (v ∷ ws) → (w : WholeTile) → IsAmong w ws → ComesBeforeWhole v w
 before-each v [] o w i = elim i [ ]
-before-each v (u ∷ ws) o w (inl e) = subst (ComesBefore v) (sym e) o.0
+before-each v (u ∷ ws) o w (inl e) = subst (ComesBeforeWhole v) (sym e) o.0
 before-each v (u ∷ ws) o w (inr i) = before-later v u w o.0 (before-each u ws o.1 w i)
 
-later-in_order : (v : WholeTile) (ws : List WholeTile) → AreInOrder (v ∷ ws) → AreInOrder ws
+later-in_order : (v : WholeTile) (ws : List WholeTile) → AreWholesInOrder (v ∷ ws) → AreWholesInOrder ws
 later-in_order v [] o = tt
 later-in_order v (w ∷ ws) o = o.1
 
@@ -49,9 +49,9 @@ not-before xs ys e less =
 
 module _ (t : Tiling) (f : FrameValue) where
   abbrev parts : WholeTile → List (Placed (NumberOf t.order))
-  parts w = map (placed_in t.order) (parts_of w)
+  parts w = map (placed_in t.order) (whole_parts w)
 
-  apart : (v w : WholeTile) → IsWholeTile t f v → IsWholeTile t f w → ComesBefore v w
+  apart : (v w : WholeTile) → IsWholeTile t f v → IsWholeTile t f w → ComesBeforeWhole v w
       → (y : Placed (NumberOf t.order)) → IsAmong y (parts v) → IsAmong y (parts w) → ⊥
   apart v w hv hw before y i j =
       not-before (first_numbers v) (first_numbers w)
@@ -59,7 +59,7 @@ module _ (t : Tiling) (f : FrameValue) where
       (first-stands t f w.first w.second hw) (one-first t f v.first w.first v.second w.second hv hw y i
       j)) before
 
-  distinct : (ws : List WholeTile) → ((w : WholeTile) → IsAmong w ws → IsWholeTile t f w) → AreInOrder ws → AreDistinct (all_parts t ws)
+  distinct : (ws : List WholeTile) → ((w : WholeTile) → IsAmong w ws → IsWholeTile t f w) → AreWholesInOrder ws → AreDistinct (all_parts t ws)
   distinct [] h o = tt
   distinct (v ∷ ws) h o =
       distinct-append (parts v) (all_parts t ws) (own-distinct t f v.first v.second (h v (inl refl)))

@@ -14,14 +14,14 @@ use Rattle.std.proofs.lemmas.List.Sorted.{ranks_by, sorted_far, searchable_from_
 use Rattle.cyclo_points.specs.declared.motion.Motion.{Motion}
 use Rattle.tile_place.specs.Keys.{key_of, are_level}
 use Rattle.tile_place.specs.declared.order_key.OrderKey.{OrderKey}
-use Rattle.half_glue.specs.Keys.{key_order}
+use Rattle.half_glue.specs.Keys.{whole_order}
 
 -- where a bisection ends
 abbrev pub place_of : Result ℕ ℕ → ℕ
 place_of (Ok i) = i
 place_of (Err i) = i
 
-key-total : IsTotalOrder key_order
+key-total : IsTotalOrder whole_order
 key-total = then_total (on_total (λ (k : OrderKey). k.high) nat_cmp_total)
     (then_total (on_total (λ (k : OrderKey). k.low) nat_cmp_total)
     (on_total (λ (k : OrderKey). k.number) nat_cmp_total))
@@ -37,14 +37,14 @@ module _ (high low : ℕ) where
   abbrev sought : OrderKey
   sought = key 0
 
-  none_before : (n : ℕ) → key_order (key n) sought ≡ Less → ⊥
+  none_before : (n : ℕ) → whole_order (key n) sought ≡ Less → ⊥
   none_before n e =
       let plain : nat_cmp n 0 ≡ Less = sym (ap₂ (λ o p. ordering_then o (ordering_then p (nat_cmp n 0))) (same-order high) (same-order low)) ∙ e in
       let l : n < 0 = ranked n 0 Less (sym plain) in
       omega (arith, l)
 
   -- a key behind the one sought, and not behind another of the place and kind, is of it too
-  between : (n : ℕ) (q : OrderKey) → key_order q sought ≡ Greater → is_lt (key_order (key n) q) ≡ false → are_level q sought ≡ true
+  between : (n : ℕ) (q : OrderKey) → whole_order q sought ≡ Greater → is_lt (whole_order (key n) q) ≡ false → are_level q sought ≡ true
   between n q behind before = by_high (nat_cmp q.high high) refl
     where
       rest : Ordering → Ordering
@@ -67,7 +67,7 @@ module _ (high low : ℕ) where
           absurd (cc (sym (ap (λ o. is_lt (ordering_then o (ordering_then (nat_cmp low q.low) (nat_cmp n q.number)))) first) ∙ before))
       by_high Equal e = by_low (ranked q.high high Equal (sym e)) (nat_cmp q.low low) refl
 
-  exactly : (q : OrderKey) → key_order q sought ≡ Equal → are_level q sought ≡ true
+  exactly : (q : OrderKey) → whole_order q sought ≡ Equal → are_level q sought ≡ true
   exactly q e = by_high (nat_cmp q.high high) (nat_cmp q.low low) refl refl
     where
       by_high : (o p : Ordering) → nat_cmp q.high high ≡ o → nat_cmp q.low low ≡ p → are_level q sought ≡ true
@@ -79,41 +79,41 @@ module _ (high low : ℕ) where
           ((Decides-eqb q.high high).1 (ranked q.high high Equal (sym h)))
           ((Decides-eqb q.low low).1 (ranked q.low low Equal (sym l)))
 
-  module _ (ks : List OrderKey) (sorted : IsSorted key_order ks) (n : ℕ) (there : Contains ks (key n)) where
+  module _ (ks : List OrderKey) (sorted : IsSorted whole_order ks) (n : ℕ) (there : Contains ks (key n)) where
     -- the bisection ends at a key of that place and kind
     pub found-level : (r : Result ℕ ℕ) → IsSearchInRange r (length ks)
-        → IfOk r (HoldsAt (λ y. key_order y sought ≡ Equal) ks)
-        → IsBinarySearchResult (λ y. key_order y sought) ks r
+        → IfOk r (HoldsAt (λ y. whole_order y sought ≡ Equal) ks)
+        → IsBinarySearchResult (λ y. whole_order y sought) ks r
         → (place_of r < length ks) × ((d : OrderKey) → are_level (get_or ks (place_of r) d) sought ≡ true)
     found-level (Ok i) range ok position = (range, λ d. exactly (get_or ks i d) (ok d))
     found-level (Err i) range ok position = (below, λ d. between n (get_or ks i d) (parted.1 i d (omega arith) below) (not_behind d))
       where
-        parted : IsPartitionPoint (λ y. key_order y sought ≡ Less) (λ y. key_order y sought ≡ Greater) ks i
+        parted : IsPartitionPoint (λ y. whole_order y sought ≡ Less) (λ y. whole_order y sought ≡ Greater) ks i
         parted = position (searchable_from_sorted key-total (λ (k : OrderKey). k) ks sought sorted)
 
         up : i ≤ there.0
         up = elim (cases_lt there.0 i) [
-          | inl l ↦ absurd (none_before n (ap (λ k. key_order k sought) (sym there.2) ∙ parted.0 there.0 (key n) (omega arith) l))
+          | inl l ↦ absurd (none_before n (ap (λ k. whole_order k sought) (sym there.2) ∙ parted.0 there.0 (key n) (omega arith) l))
           | inr l ↦ l
         ]
 
         below : i < length ks
         below = let l = there.1 in omega (arith, up, l)
 
-        not_behind : (d : OrderKey) → is_lt (key_order (key n) (get_or ks i d)) ≡ false
+        not_behind : (d : OrderKey) → is_lt (whole_order (key n) (get_or ks i d)) ≡ false
         not_behind d =
-            ap (λ k. is_lt (key_order k (get_or ks i d))) (sym there.2 ∙ get_or_default ks there.0 (key n) d there.1)
-            ∙ sorted_far (λ x y. is_lt (key_order x y)) (ranks_by key-total (λ (k : OrderKey). k)) ks sorted i there.0 d up there.1
+            ap (λ k. is_lt (whole_order k (get_or ks i d))) (sym there.2 ∙ get_or_default ks there.0 (key n) d there.1)
+            ∙ sorted_far (λ x y. is_lt (whole_order x y)) (ranks_by key-total (λ (k : OrderKey). k)) ks sorted i there.0 d up there.1
 
 -- the same of the key that the program seeks, by the motion and the kind
 pub found-there : (m : Motion) (kind : ℕ) (s : OrderKey) → s ≡ key_of m kind 0 → (ks : List OrderKey)
-    → IsSorted key_order ks → (n : ℕ) → Contains ks (key_of m kind n)
-    → (r : Result ℕ ℕ) → IsSearchInRange r (length ks) → IfOk r (HoldsAt (λ y. key_order y s ≡ Equal) ks)
-    → IsBinarySearchResult (λ y. key_order y s) ks r
+    → IsSorted whole_order ks → (n : ℕ) → Contains ks (key_of m kind n)
+    → (r : Result ℕ ℕ) → IsSearchInRange r (length ks) → IfOk r (HoldsAt (λ y. whole_order y s ≡ Equal) ks)
+    → IsBinarySearchResult (λ y. whole_order y s) ks r
     → (place : ℕ) → place ≡ place_of r → (place < length ks) × ((d : OrderKey) → are_level (get_or ks place d) s ≡ true)
 found-there m kind s e ks sorted n there r range ok position place is =
     subst (λ k. (k < length ks) × ((d : OrderKey) → are_level (get_or ks k d) s ≡ true)) (sym is)
-    (subst (λ q. IfOk r (HoldsAt (λ y. key_order y q ≡ Equal) ks)
-    → IsBinarySearchResult (λ y. key_order y q) ks r → (place_of r < length ks)
+    (subst (λ q. IfOk r (HoldsAt (λ y. whole_order y q ≡ Equal) ks)
+    → IsBinarySearchResult (λ y. whole_order y q) ks r → (place_of r < length ks)
     × ((d : OrderKey) → are_level (get_or ks (place_of r) d) q ≡ true)) (sym e)
     (found-level (key_of m kind 0).high (key_of m kind 0).low ks sorted n there r range) ok position)

@@ -22,11 +22,11 @@ use Rattle.theory_walks.specs.Paths.{Crosses}
 use Rattle.lazy_walk.specs.Standing.{Stands}
 use Rattle.theory_walks.proofs.Ancestors.{full-later}
 use Rattle.theory_walks.proofs.Lifting.{IsTileOf-later, lifted-later}
-use Rattle.half_glue.specs.Causes.{IsRefusedShift}
+use Rattle.half_glue.specs.Causes.{IsRefusedGlueShift}
 use Rattle.half_glue.specs.Checked.{HasGlueLaws}
 use Rattle.half_glue.specs.Depth.{IsGluedInside, IsTooShallow}
 use Rattle.half_glue.specs.Given.{IsGiven}
-use Rattle.half_glue.specs.Found.{AreGlued, IsCrossed}
+use Rattle.half_glue.specs.Found.{AreGlued, IsOtherHalf}
 use Rattle.half_glue.specs.Limits.{CanBeJoined}
 use Rattle.half_glue.proofs.Across.{crosses}
 use Rattle.half_glue.proofs.Growing.{stands-on, lifted-on, boundary-before, crosses-on}
@@ -102,7 +102,7 @@ module _ (m : Rule) (L : HasGlueLaws m) (f : FrameValue) (is : IsFrameOf (tiling
           own-whole.fits stands.of_frame.fits (glue-edge-of m L g up.is_frame x given-on edge glue_edge)
           over
 
-      pub crossed-glued : is_refused m.order (point_in m.order other.motion.shift) ≡ false → IsCrossed t g x other
+      pub crossed-glued : is_refused m.order (point_in m.order other.motion.shift) ≡ false → IsOtherHalf t g x other
       crossed-glued unrefused =
           let its : IsGiven t g other = stands-given t g other stands
           (within-some_beyond other.motion.shift
@@ -119,7 +119,7 @@ module _ (m : Rule) (L : HasGlueLaws m) (f : FrameValue) (is : IsFrameOf (tiling
           (subst (λ y. CanBeJoined t y x) (sym (full-later t f g up)) can) edge glue_edge other back
           crossing stands
 
-      pub refused-shift : is_refused m.order (point_in m.order other.motion.shift) ≡ true → IsRefusedShift t g (x ∷ []) other.motion.shift
+      pub refused-shift : is_refused m.order (point_in m.order other.motion.shift) ≡ true → IsRefusedGlueShift t g (x ∷ []) other.motion.shift
       refused-shift beyond = record {
         tile = x;
         is_given = the-one x;

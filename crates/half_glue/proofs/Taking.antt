@@ -14,7 +14,7 @@ use Rattle.half_glue.specs.declared.half.Found.TheVariants.{Alone, Given, Crosse
 use Rattle.half_glue.specs.declared.pairs.Pair.{Pair}
 use Rattle.half_glue.specs.declared.whole_tile.WholeTile.{WholeTile}
 use Rattle.half_glue.specs.Checked.{HasGlueLaws}
-use Rattle.half_glue.specs.Found.{no_tile, tile_of, IsFound}
+use Rattle.half_glue.specs.Found.{no_tile, given_tile, IsHalfFound}
 use Rattle.half_glue.specs.Given.{IsGiven}
 use Rattle.half_glue.specs.Pairs.{added_pairs, added_tiles, ArePresent, second_of, loose_of, AreLoose, IsLoose, IsTaken, ArePairsOf}
 use Rattle.half_glue.proofs.Chosen.{get_or-front, contains-left}
@@ -29,7 +29,7 @@ pub record ArePaired (t : Tiling) (f : FrameValue) (tiles : List PlacedTile) (ba
   pub given : All (IsGiven t f) (tiles ++ crossed)
   pub present : All (ArePresent (length (tiles ++ crossed))) pairs
   pub loose : All (IsLoose t f tiles) (map (loose_of (tiles ++ crossed)) pairs)
-  pub taken : (k : ℕ) → k < i → IsTaken t f tiles (map (loose_of (tiles ++ crossed)) pairs) (tile_of tiles k)
+  pub taken : (k : ℕ) → k < i → IsTaken t f tiles (map (loose_of (tiles ++ crossed)) pairs) (given_tile tiles k)
 
 -- ---- tiles behind others
 module _ (xs ys : List PlacedTile) where
@@ -102,7 +102,8 @@ module _ (m : Rule) (L : HasGlueLaws m) (now after : FrameValue) (is : IsFrameOf
           (get_or (map (loose_of (tiles ++ crossed)) pairs) k d).second w.glued;
       of_given = w.of_given;
     };
-    taken = λ k l. taken-on (map (loose_of (tiles ++ crossed)) pairs) (tile_of tiles k) all (all k no_tile (omega (arith, l, within))) (h.taken k l);
+    taken = λ k l. taken-on (map (loose_of (tiles ++ crossed)) pairs) (given_tile tiles k) all (all k no_tile (omega (arith, l, within)))
+        (h.taken k l);
   }
 
 -- ---- one more tile
@@ -110,7 +111,7 @@ module _ (t : Tiling) (f : FrameValue) (tiles : List PlacedTile) (base i : ℕ) 
     (crossed : List PlacedTile) (pairs : List Pair) (all : All (IsGiven t f) tiles)
     (h : ArePaired t f tiles base i crossed pairs) where
   abbrev own : PlacedTile
-  own = tile_of tiles i
+  own = given_tile tiles i
 
   among : Contains tiles own
   among = (i, below, get_or_default tiles i own no_tile below)
@@ -132,7 +133,7 @@ module _ (t : Tiling) (f : FrameValue) (tiles : List PlacedTile) (base i : ℕ) 
     joined : map (loose_of halves) (pairs ++ more) ≡ map (loose_of (tiles ++ crossed)) pairs ++ made
     joined = map-joined (loose_of halves) pairs more ∙ ap (λ (ws : List WholeTile). ws ++ made) before
 
-    at : (k : ℕ) → k < length tiles → tile_of halves k ≡ tile_of tiles k
+    at : (k : ℕ) → k < length tiles → given_tile halves k ≡ given_tile tiles k
     at k l = get_or-front tiles (crossed ++ added) k no_tile l
 
     taking : length added ≤ 1 → length more ≤ 1 → All (IsGiven t f) added
@@ -148,10 +149,10 @@ module _ (t : Tiling) (f : FrameValue) (tiles : List PlacedTile) (base i : ℕ) 
           (h.present k d l)) present;
       loose = subst (All (IsLoose t f tiles)) (sym joined)
           (All-append (IsLoose t f tiles) (map (loose_of (tiles ++ crossed)) pairs) made h.loose loose);
-      taken = λ k l. subst (λ ws. IsTaken t f tiles ws (tile_of tiles k)) (sym joined) (elim (cases_lt k i) [
-        | inl b ↦ still-taken t f tiles (map (loose_of (tiles ++ crossed)) pairs) made (tile_of tiles k) (h.taken k b)
+      taken = λ k l. subst (λ ws. IsTaken t f tiles ws (given_tile tiles k)) (sym joined) (elim (cases_lt k i) [
+        | inl b ↦ still-taken t f tiles (map (loose_of (tiles ++ crossed)) pairs) made (given_tile tiles k) (h.taken k b)
         | inr b ↦ let same : i ≡ k = omega (arith, l, b) in subst
-            (λ n. IsTaken t f tiles (map (loose_of (tiles ++ crossed)) pairs ++ made) (tile_of tiles n)) same
+            (λ n. IsTaken t f tiles (map (loose_of (tiles ++ crossed)) pairs ++ made) (given_tile tiles n)) same
             (last taken)
       ]);
     }
@@ -161,11 +162,11 @@ module _ (t : Tiling) (f : FrameValue) (tiles : List PlacedTile) (base i : ℕ) 
         last (inr g) = inr g
 
     -- two tiles of these numbers
-    two-loose : (n k : ℕ) (a b : PlacedTile) → tile_of halves n ≡ a → tile_of halves k ≡ b
+    two-loose : (n k : ℕ) (a b : PlacedTile) → given_tile halves n ≡ a → given_tile halves k ≡ b
         → loose_of halves (record { first = n; second = Some k }) ≡ record { first = a; second = Some b }
     two-loose n k a b e g = λ j. record { first = e j; second = Some (g j) }
 
-  pub alone : IsFound t f tiles own Alone → ArePaired t f tiles base (i + 1) (crossed ++ []) (pairs ++ added_pairs tiles i (length crossed) Alone)
+  pub alone : IsHalfFound t f tiles own Alone → ArePaired t f tiles base (i + 1) (crossed ++ []) (pairs ++ added_pairs tiles i (length crossed) Alone)
   alone none =
       let p : Pair = record { first = i; second = None } in
       let w : WholeTile = record { first = own; second = None } in
@@ -179,9 +180,9 @@ module _ (t : Tiling) (f : FrameValue) (tiles : List PlacedTile) (base i : ℕ) 
       (inl (loose_of (halves [] (p ∷ [])) p, the-first (loose_of (halves [] (p ∷ [])) p), at [] (p ∷ []) i below))
 
   -- the other half is given
-  module _ (k : ℕ) (found : IsFound t f tiles own (Given k)) where
+  module _ (k : ℕ) (found : IsHalfFound t f tiles own (Given k)) where
     abbrev other : PlacedTile
-    other = tile_of tiles k
+    other = given_tile tiles k
 
     abbrev both : Pair
     both = record { first = i; second = Some k }
@@ -219,7 +220,7 @@ module _ (t : Tiling) (f : FrameValue) (tiles : List PlacedTile) (base i : ℕ) 
     given-too = given-by (nat_lt own.kind other.kind) refl
 
   -- or crossed to
-  module _ (y : PlacedTile) (found : IsFound t f tiles own (Crossed y)) where
+  module _ (y : PlacedTile) (found : IsHalfFound t f tiles own (Crossed y)) where
     abbrev n : ℕ
     n = length tiles + length crossed
 
@@ -229,8 +230,8 @@ module _ (t : Tiling) (f : FrameValue) (tiles : List PlacedTile) (base i : ℕ) 
     abbrev own_second : Pair
     own_second = record { first = n; second = Some i }
 
-    at-new : (more : List Pair) → tile_of (halves (y ∷ []) more) n ≡ y
-    at-new more = ap (λ hs. tile_of hs n) (longer (y ∷ []) more)
+    at-new : (more : List Pair) → given_tile (halves (y ∷ []) more) n ≡ y
+    at-new more = ap (λ hs. given_tile hs n) (longer (y ∷ []) more)
         ∙ ap (λ k. get_or ((tiles ++ crossed) ++ y ∷ []) k no_tile) (sym (length-append tiles crossed))
         ∙ get_or-append_seam (tiles ++ crossed) y [] no_tile
 
@@ -284,7 +285,7 @@ module _ (t : Tiling) (f : FrameValue) (tiles : List PlacedTile) (base i : ℕ) 
     crossed-to : ArePaired t f tiles base (i + 1) (crossed ++ y ∷ []) (pairs ++ added_pairs tiles i (length crossed) (Crossed y))
     crossed-to = crossed-by (nat_lt own.kind y.kind) refl
 
-  pub taken-too : (found : Found) → IsFound t f tiles own found
+  pub taken-too : (found : Found) → IsHalfFound t f tiles own found
       → ArePaired t f tiles base (i + 1) (crossed ++ added_tiles found)
       (pairs ++ added_pairs tiles i (length crossed) found)
   taken-too Alone h = alone h
@@ -294,7 +295,7 @@ module _ (t : Tiling) (f : FrameValue) (tiles : List PlacedTile) (base i : ℕ) 
 -- a tile that is taken already
 pub taken-before : (t : Tiling) (f : FrameValue) (tiles : List PlacedTile) (base i : ℕ)
     (crossed : List PlacedTile) (pairs : List Pair) → ArePaired t f tiles base i crossed pairs
-    → IsTaken t f tiles (map (loose_of (tiles ++ crossed)) pairs) (tile_of tiles i) → ArePaired t f tiles base (i + 1) crossed pairs
+    → IsTaken t f tiles (map (loose_of (tiles ++ crossed)) pairs) (given_tile tiles i) → ArePaired t f tiles base (i + 1) crossed pairs
 taken-before t f tiles base i crossed pairs h own = record {
   few = let l = h.few in omega (arith, l);
   few_crossed = let l = h.few_crossed in omega (arith, l);
@@ -304,7 +305,7 @@ taken-before t f tiles base i crossed pairs h own = record {
   taken = λ k l. elim (cases_lt k i) [
     | inl b ↦ h.taken k b
     | inr b ↦ let same : i ≡ k = omega (arith, l, b) in subst
-        (λ n. IsTaken t f tiles (map (loose_of (tiles ++ crossed)) pairs) (tile_of tiles n)) same own
+        (λ n. IsTaken t f tiles (map (loose_of (tiles ++ crossed)) pairs) (given_tile tiles n)) same own
   ];
 }
 

@@ -22,12 +22,12 @@ use Rattle.lazy_walk.specs.Standing.{Stands}
 use Rattle.theory_walks.proofs.Walked.{whole-tile_of}
 use Rattle.half_glue.specs.declared.pairs.Pair.{Pair}
 use Rattle.half_glue.specs.declared.whole_tile.WholeTile.{WholeTile}
-use Rattle.half_glue.specs.Arranged.{AreArranged}
+use Rattle.half_glue.specs.Arranged.{AreWholesArranged}
 use Rattle.half_glue.specs.Checked.{HasGlueLaws}
 use Rattle.half_glue.specs.Found.{AreGlued}
 use Rattle.half_glue.specs.Given.{lifted_tile, IsGiven}
 use Rattle.half_glue.specs.InOrder.{first_numbers}
-use Rattle.half_glue.specs.Keys.{HasKey}
+use Rattle.half_glue.specs.Keys.{HasTileKey}
 use Rattle.half_glue.specs.Lifted.{IsNoDeeper, lifted_to, second_to, whole_to, whole_of, wholes_of}
 use Rattle.half_glue.specs.Pairs.{loose_of, AreLoose, IsEither, IsLoose, IsTaken, ArePairsOf}
 use Rattle.half_glue.specs.WholeTiles.{IsWholeBy, IsWholeTile, IsOneOf, IsPartOf, AreWholeTilesOf}
@@ -155,7 +155,7 @@ module _ (m : Rule) (L : HasGlueLaws m) (f : FrameValue) (is : IsFrameOf (tiling
     abbrev made : List WholeTile
     made = wholes_of f all pairs
 
-    pub all-keyed : All HasKey all
+    pub all-keyed : All HasTileKey all
     all-keyed i d l = given-key m L f is (get_or all i d) (are.given i d l)
 
     pub all-no_deeper : All (IsNoDeeper f) all
@@ -192,7 +192,7 @@ module _ (m : Rule) (L : HasGlueLaws m) (f : FrameValue) (is : IsFrameOf (tiling
             let same = (one-other y x z own its (glued-back t f x y g) h).1 in
             omega (arith, less, lesser, same)
 
-    pub are-wholes : (wholes : List WholeTile) → AreArranged made wholes → AreWholeTilesOf t f tiles wholes
+    pub are-wholes : (wholes : List WholeTile) → AreWholesArranged made wholes → AreWholeTilesOf t f tiles wholes
     are-wholes wholes arranged = record {
       whole = λ i d l. whole-at (get_or wholes i d) (arranged.from_made i d l);
       of_given = λ i d l.

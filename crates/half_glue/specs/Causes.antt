@@ -18,7 +18,8 @@ use Rattle.half_glue.specs.declared.glue_fault.GlueFault.{GlueFault}
 use Rattle.half_glue.specs.declared.glue_fault.GlueFault.TheVariants.{DepthLimit, CoordLimit, NoMemory}
 
 -- a given tile, lifted to depth 64, has this glue edge on the boundary
-pub record IsDepthLimit (t : Tiling) (f : FrameValue) (tiles : List PlacedTile) (addr : Address) (edge : ℕ) : Type 0 where
+pub record IsGlueDepthLimit (t : Tiling) (f : FrameValue) (tiles : List PlacedTile) (addr : Address)
+    (edge : ℕ) : Type 0 where
   pub tile : PlacedTile
   pub is_given : Contains tiles tile
   pub its_address : address_of addr ≡ lifted_at t f (address_of tile.addr) 64
@@ -26,7 +27,8 @@ pub record IsDepthLimit (t : Tiling) (f : FrameValue) (tiles : List PlacedTile) 
   pub on_boundary : IsBoundaryEdge t (lifted_at t f (address_of tile.addr) 64) edge
 
 -- the tile across the glue edge of a given tile has this refused shift, a point of its order
-pub record IsRefusedShift (t : Tiling) (f : FrameValue) (tiles : List PlacedTile) (value : Point) : Type 0 where
+pub record IsRefusedGlueShift (t : Tiling) (f : FrameValue) (tiles : List PlacedTile)
+    (value : Point) : Type 0 where
   pub tile : PlacedTile
   pub is_given : Contains tiles tile
   pub edge : ℕ
@@ -42,6 +44,6 @@ pub record IsRefusedShift (t : Tiling) (f : FrameValue) (tiles : List PlacedTile
 
 -- the cause of each fault; the frame was f, and is g
 abbrev pub HasGlueCause : Tiling → FrameValue → FrameValue → List PlacedTile → GlueFault → Type 0
-HasGlueCause t f g tiles (DepthLimit addr edge) = IsDepthLimit t f tiles addr edge
-HasGlueCause t f g tiles (CoordLimit value) = IsRefusedShift t g tiles value
+HasGlueCause t f g tiles (DepthLimit addr edge) = IsGlueDepthLimit t f tiles addr edge
+HasGlueCause t f g tiles (CoordLimit value) = IsRefusedGlueShift t g tiles value
 HasGlueCause t f g tiles NoMemory = Unit {0}

@@ -22,7 +22,8 @@ pub record HasGlueLaws (m : Rule) : Type 0 where
   pub usable : IsUsable m
   pub uses_usable : AreUsable (children (tiling_of m))
   pub same_child_kinds : child_kinds (contacts (tiling_of m)) ≡ children (tiling_of m)
-  pub still_fits : (base : Address) (start n : ℕ) → Fits (children (tiling_of m)) base → Fits (children (tiling_of m)) (grown_by (uses_in_order (children (tiling_of m))) (word start) n base)
+  pub still_fits : (base : Address) (start n : ℕ) → Fits (children (tiling_of m)) base
+      → Fits (children (tiling_of m)) (grown_by (uses_in_order (children (tiling_of m))) (word start) n base)
   pub points : PointsLaw m.order
   pub across : AcrossLaw (points_of m.order)
   pub boundary : BoundaryLaw (points_of m.order)

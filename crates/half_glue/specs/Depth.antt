@@ -10,7 +10,8 @@ use Rattle.theory_walks.specs.Frames.{FrameValue, lifted_at}
 
 -- at depth n the tile's glue edge, if it has one, is inside the frame's supertile
 abbrev pub IsGluedInside : Tiling → FrameValue → ℕ → PlacedTile → Type 0
-IsGluedInside t f n x = (e : ℕ) → IsGlueEdge t.rule x.kind e → ¬ IsBoundaryEdge t (lifted_at t f (address_of x.addr) n) e
+IsGluedInside t f n x = (e : ℕ) → IsGlueEdge t.rule x.kind e
+    → ¬ IsBoundaryEdge t (lifted_at t f (address_of x.addr) n) e
 
 -- one of these tiles has its glue edge on the boundary at depth n
 pub record IsTooShallow (t : Tiling) (f : FrameValue) (tiles : List PlacedTile) (n : ℕ) : Type 0 where

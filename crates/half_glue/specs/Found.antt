@@ -28,11 +28,15 @@ use Rattle.half_glue.specs.WholeTiles.{HasNoGlueEdge}
 
 -- a value for a number that no tile has
 abbrev pub no_tile : PlacedTile
-no_tile = record { kind = 0; motion = record { turn = 0; shift = record { c = [] } }; addr = record { kind = 0; digits = record { items = [] } } }
+no_tile = record {
+  kind = 0;
+  motion = record { turn = 0; shift = record { c = [] } };
+  addr = record { kind = 0; digits = record { items = [] } };
+}
 
 -- the tile with this number
-abbrev pub tile_of : List PlacedTile → ℕ → PlacedTile
-tile_of tiles n = get_or tiles n no_tile
+abbrev pub given_tile : List PlacedTile → ℕ → PlacedTile
+given_tile tiles n = get_or tiles n no_tile
 
 -- the motion is the one that glues, followed by the half's own, and is not refused
 pub record IsBeside (o : Order) (s : OtherSide) (own m : Motion) : Type 0 where
@@ -41,9 +45,9 @@ pub record IsBeside (o : Order) (s : OtherSide) (own m : Motion) : Type 0 where
   pub turn_below : m.turn < (points_of o).order
 
 -- the key with this number is that of a tile of the other kind, in the other half's place
-abbrev pub StandsBeside : Order → Option OtherSide → Motion → List OrderKey → ℕ → Type 0
-StandsBeside o None own keys n = ⊥
-StandsBeside o (Some s) own keys n = (m : Motion) × IsBeside o s own m × Contains keys (key_of m s.kind n)
+abbrev pub KeyStandsBeside : Order → Option OtherSide → Motion → List OrderKey → ℕ → Type 0
+KeyStandsBeside o None own keys n = ⊥
+KeyStandsBeside o (Some s) own keys n = (m : Motion) × IsBeside o s own m × Contains keys (key_of m s.kind n)
 
 -- the tile with this number is of the other kind, in the other half's place
 abbrev pub StandsAmong : Order → Option OtherSide → Motion → List PlacedTile → ℕ → Type 0
@@ -57,29 +61,32 @@ pub record AreGlued (t : Tiling) (f : FrameValue) (x y : PlacedTile) : Type 0 wh
   pub its_edge : ℕ
   pub glue_edge : IsOnlyGlueEdge t.rule x.kind edge
   pub its_glue_edge : IsOnlyGlueEdge t.rule y.kind its_edge
-  pub across : Crosses t (lifted_in (whole f) (address_of x.addr)) edge (lifted_in (whole f) (address_of y.addr)) its_edge
-  pub back : Crosses t (lifted_in (whole f) (address_of y.addr)) its_edge (lifted_in (whole f) (address_of x.addr)) edge
+  pub across : Crosses t (lifted_in (whole f) (address_of x.addr)) edge
+      (lifted_in (whole f) (address_of y.addr)) its_edge
+  pub back : Crosses t (lifted_in (whole f) (address_of y.addr)) its_edge
+      (lifted_in (whole f) (address_of x.addr)) edge
   pub other_kind : ¬ y.kind ≡ x.kind
 
 -- y is a tile of the frame, and the other half of x
-abbrev pub IsCrossed : Tiling → FrameValue → PlacedTile → PlacedTile → Type 0
-IsCrossed t f x y = IsGiven t f y × AreGlued t f x y
+abbrev pub IsOtherHalf : Tiling → FrameValue → PlacedTile → PlacedTile → Type 0
+IsOtherHalf t f x y = IsGiven t f y × AreGlued t f x y
 
 -- what is found of the tile x: that it has no glue edge, or its other half
-abbrev pub IsFound : Tiling → FrameValue → List PlacedTile → PlacedTile → Found → Type 0
-IsFound t f tiles x Alone = HasNoGlueEdge t x.kind
-IsFound t f tiles x (Given n) = (n < length tiles) × AreGlued t f x (tile_of tiles n)
-IsFound t f tiles x (Crossed y) = IsCrossed t f x y
+abbrev pub IsHalfFound : Tiling → FrameValue → List PlacedTile → PlacedTile → Found → Type 0
+IsHalfFound t f tiles x Alone = HasNoGlueEdge t x.kind
+IsHalfFound t f tiles x (Given n) = (n < length tiles) × AreGlued t f x (given_tile tiles n)
+IsHalfFound t f tiles x (Crossed y) = IsOtherHalf t f x y
 
--- what is found of the tile x is right for the frame, which was f and is g; its glue edge is inside there, and it can
--- be joined
-pub record IsJoined (t : Tiling) (f g : FrameValue) (tiles : List PlacedTile) (x : PlacedTile) (half : Found) : Type 0 where
-  pub found : IsFound t g tiles x half
+-- what is found of the tile x is right for the frame, which was f and is g; its glue edge is inside there,
+-- and it can be joined
+pub record IsJoined (t : Tiling) (f g : FrameValue) (tiles : List PlacedTile) (x : PlacedTile)
+    (half : Found) : Type 0 where
+  pub found : IsHalfFound t g tiles x half
   pub inside : IsGluedInside t f (length g.digits) x
   pub can_be_joined : CanBeJoined t (full t f) x
 
 -- a number that is found is that of a tile
-abbrev pub IsNumbered : List PlacedTile → Found → Type 0
-IsNumbered tiles Alone = Unit {0}
-IsNumbered tiles (Given n) = n < length tiles
-IsNumbered tiles (Crossed y) = Unit {0}
+abbrev pub IsNumberOfGiven : List PlacedTile → Found → Type 0
+IsNumberOfGiven tiles Alone = Unit {0}
+IsNumberOfGiven tiles (Given n) = n < length tiles
+IsNumberOfGiven tiles (Crossed y) = Unit {0}

@@ -13,13 +13,17 @@ use Rattle.theory_windows.specs.Limits.{most_tiles}
 
 -- the tile, lifted to the depth of the frame, with its own motion
 abbrev pub lifted_tile : (t : Tiling) → FrameValue → PlacedTile → Placed (NumberOf t.order)
-lifted_tile t f x = record { address = lifted_in (whole f) (address_of x.addr); motion = motion_in t.order x.motion }
+lifted_tile t f x = record {
+  address = lifted_in (whole f) (address_of x.addr);
+  motion = motion_in t.order x.motion;
+}
 
 -- the tile is of the frame, with its motion there, and its shift is not refused
 pub record IsGiven (t : Tiling) (f : FrameValue) (x : PlacedTile) : Type 0 where
   pub its_kind : x.kind ≡ x.addr.kind
   pub of_frame : IsTileOf (children t) (whole f) (address_of x.addr)
-  pub in_frame : StandsInFrame (points_of t.order) t.rule (whole f) (lifted_in (whole f) (address_of x.addr)) (motion_in t.order x.motion)
+  pub in_frame : StandsInFrame (points_of t.order) t.rule (whole f) (lifted_in (whole f) (address_of x.addr))
+      (motion_in t.order x.motion)
   pub turn_below : x.motion.turn < (points_of t.order).order
   pub in_order : IsOf t.order x.motion.shift
   pub within : IsWithin (2 ^ 24) x.motion.shift

@@ -11,11 +11,11 @@ abbrev pub first_numbers : WholeTile → List ℤ
 first_numbers w = order_numbers w.first.motion w.first.kind
 
 -- one whole tile comes before the other
-abbrev pub ComesBefore : WholeTile → WholeTile → Type 0
-ComesBefore v w = slice_cmp int_cmp (first_numbers v) (first_numbers w) ≡ Less
+abbrev pub ComesBeforeWhole : WholeTile → WholeTile → Type 0
+ComesBeforeWhole v w = slice_cmp int_cmp (first_numbers v) (first_numbers w) ≡ Less
 
 -- each of these comes before the next, so none is repeated
-abbrev pub AreInOrder : List WholeTile → Type 0
-AreInOrder [] = Unit {0}
-AreInOrder (v ∷ []) = Unit {0}
-AreInOrder (v ∷ w ∷ wholes) = ComesBefore v w × AreInOrder (w ∷ wholes)
+abbrev pub AreWholesInOrder : List WholeTile → Type 0
+AreWholesInOrder [] = Unit {0}
+AreWholesInOrder (v ∷ []) = Unit {0}
+AreWholesInOrder (v ∷ w ∷ wholes) = ComesBeforeWhole v w × AreWholesInOrder (w ∷ wholes)

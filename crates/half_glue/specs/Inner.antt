@@ -11,13 +11,13 @@ use Rattle.half_glue.specs.Keys.{no_pair}
 use Rattle.half_glue.specs.Pairs.{ArePresent, IsLoose, loose_of}
 
 -- the tile's kind exists, and its motion is within the limits
-pub record IsPlaced (t : Tiling) (x : PlacedTile) : Type 0 where
+pub record IsTilePlaced (t : Tiling) (x : PlacedTile) : Type 0 where
   pub kind_exists : x.kind < length t.rule.kinds
   pub turn_below : x.motion.turn < (points_of t.order).order
   pub within : IsWithin (2 ^ 24) x.motion.shift
 
 -- both numbers of the pair are those of given tiles, and these tiles are a whole one
-pub record IsInner (t : Tiling) (f : FrameValue) (tiles : List PlacedTile) (p : Pair) : Type 0 where
+pub record IsInnerPair (t : Tiling) (f : FrameValue) (tiles : List PlacedTile) (p : Pair) : Type 0 where
   pub present : ArePresent (length tiles) p
   pub loose : IsLoose t f tiles (loose_of tiles p)
 
@@ -26,12 +26,14 @@ abbrev pub IsOfPair : ℕ → Pair → Type 0
 IsOfPair k p = (p.first ≡ k) ⊎ (p.second ≡ Some k)
 
 -- this holds for each of these pairs, and each tile that is marked is of one of them
-pub record AreInner (t : Tiling) (f : FrameValue) (tiles : List PlacedTile) (pairs : List Pair) (marks : List Bool) : Type 0 where
-  pub each : All (IsInner t f tiles) pairs
+pub record AreInner (t : Tiling) (f : FrameValue) (tiles : List PlacedTile) (pairs : List Pair)
+    (marks : List Bool) : Type 0 where
+  pub each : All (IsInnerPair t f tiles) pairs
   pub taken : (k : ℕ) → IsTrue (get_or marks k false) → (p : Pair) × Contains pairs p × IsOfPair k p
 
 -- the first number of each pair is below n, and less than that of each pair after it
 pub record AreRising (n : ℕ) (pairs : List Pair) : Type 0 where
   pub few : length pairs ≤ n
   pub below : All (λ (p : Pair). p.first < n) pairs
-  pub rising : (i j : ℕ) → i < j → j < length pairs → (get_or pairs i no_pair).first < (get_or pairs j no_pair).first
+  pub rising : (i j : ℕ) → i < j → j < length pairs
+      → (get_or pairs i no_pair).first < (get_or pairs j no_pair).first

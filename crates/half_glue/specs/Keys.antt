@@ -10,12 +10,12 @@ use Rattle.half_glue.specs.declared.pairs.Pair.{Pair}
 use Rattle.half_glue.specs.declared.whole_tile.WholeTile.{WholeTile}
 
 -- the order by which keys are sorted
-abbrev pub key_order : OrderKey → OrderKey → Ordering
-key_order = (key_ord.ghosts).cmp
+abbrev pub whole_order : OrderKey → OrderKey → Ordering
+whole_order = (key_ord.ghosts).cmp
 
 -- the numbers of the tile are small enough for a key
-abbrev pub HasKey : PlacedTile → Type 0
-HasKey x = FitsKey x.motion x.kind
+abbrev pub HasTileKey : PlacedTile → Type 0
+HasTileKey x = FitsKey x.motion x.kind
 
 -- the keys of things, each by one of its tiles, numbered from n
 abbrev pub keys_by : {A : Type 0} → (A → PlacedTile) → ℕ → List A → List OrderKey
@@ -33,15 +33,15 @@ first_keys wholes = keys_by (λ w. w.first) 0 wholes
 -- these are the keys of the tiles, in order
 pub record AreKeysOf (tiles : List PlacedTile) (keys : List OrderKey) : Type 0 where
   pub same : IsPermutation (own_keys tiles) keys
-  pub sorted : IsSorted key_order keys
+  pub sorted : IsSorted whole_order keys
 
 abbrev pub no_key : OrderKey
 no_key = record { high = 0; low = 0; number = 0 }
 
 -- true if the key at a place differs from the one before in more than its number
-unfoldable pub is_new : List OrderKey → ℕ → Bool
-is_new ks zero = true
-is_new ks (suc i) = not (are_level (get_or ks (suc i) no_key) (get_or ks i no_key))
+unfoldable pub is_new_key : List OrderKey → ℕ → Bool
+is_new_key ks zero = true
+is_new_key ks (suc i) = not (are_level (get_or ks (suc i) no_key) (get_or ks i no_key))
 
 -- the whole tile of the key at this place
 abbrev pub whole_at : List WholeTile → WholeTile → List OrderKey → ℕ → WholeTile

@@ -17,7 +17,11 @@ IsNoDeeper f x = theory.depth (address_of x.addr) ≤ length f.digits
 
 -- a tile lifted
 abbrev pub lifted_to : FrameValue → PlacedTile → PlacedTile
-lifted_to f x = record { kind = x.kind; motion = x.motion; addr = address_as (lifted_in (whole f) (address_of x.addr)) }
+lifted_to f x = record {
+  kind = x.kind;
+  motion = x.motion;
+  addr = address_as (lifted_in (whole f) (address_of x.addr));
+}
 
 abbrev pub second_to : FrameValue → Option PlacedTile → Option PlacedTile
 second_to f None = None

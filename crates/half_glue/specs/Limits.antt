@@ -16,7 +16,8 @@ use Rattle.theory_walks.specs.Paths.{Crosses}
 -- shift
 pub record CanBeJoined (t : Tiling) (f : Address) (x : PlacedTile) : Type 0 where
   pub inside : (e : ℕ) → IsGlueEdge t.rule x.kind e → ¬ IsBoundaryEdge t (lifted_in f (address_of x.addr)) e
-  pub unrefused : (e back : ℕ) (b : Address) (m : MotionOf t) → IsGlueEdge t.rule x.kind e → Crosses t (lifted_in f (address_of x.addr)) e b back
+  pub unrefused : (e back : ℕ) (b : Address) (m : MotionOf t) → IsGlueEdge t.rule x.kind e
+      → Crosses t (lifted_in f (address_of x.addr)) e b back
       → StandsInFrame (points_of t.order) t.rule f b m → is_refused t.order m.shift ≡ false
 
 -- this holds for each of these tiles, at depth 64

@@ -39,12 +39,15 @@ glued e vs f ws = begun_behind e vs ++ inner_of (begun_behind f ws)
 
 -- the vertices of a tile in its place, in their order
 abbrev pub vertices_in_place : (t : Tiling) → PlacedTile → List (NumberOf t.order)
-vertices_in_place t x = map (moved (points_of t.order) (motion_in t.order x.motion)) (vertices_of t.rule x.kind)
+vertices_in_place t x =
+    map (moved (points_of t.order) (motion_in t.order x.motion)) (vertices_of t.rule x.kind)
 
 -- the outline of a tile alone, or of two halves
 abbrev pub outline_by : (t : Tiling) → PlacedTile → Option PlacedTile → List (NumberOf t.order)
 outline_by t a None = vertices_in_place t a
-outline_by t a (Some b) = glued (glue_edge_of t.rule a.kind) (vertices_in_place t a) (glue_edge_of t.rule b.kind) (vertices_in_place t b)
+outline_by t a (Some b) =
+    glued (glue_edge_of t.rule a.kind) (vertices_in_place t a) (glue_edge_of t.rule b.kind)
+    (vertices_in_place t b)
 
 -- the vertices of a whole tile's outline
 abbrev pub outline_of : (t : Tiling) → WholeTile → List (NumberOf t.order)
@@ -55,8 +58,8 @@ abbrev pub parts_by : PlacedTile → Option PlacedTile → List PlacedTile
 parts_by a None = a ∷ []
 parts_by a (Some b) = a ∷ b ∷ []
 
-abbrev pub parts_of : WholeTile → List PlacedTile
-parts_of w = parts_by w.first w.second
+abbrev pub whole_parts : WholeTile → List PlacedTile
+whole_parts w = parts_by w.first w.second
 
 -- the outline as a polygon of the plane
 abbrev pub polygon_of_whole : (t : Tiling) → WholeTile → Polygon (points_of t.order).real
@@ -70,7 +73,8 @@ polygon_of_part t x = tile_polygon (points_of t.order) t.rule (λ z. z) (placed_
 abbrev pub CountsAsParts : Tiling → WholeTile → Type 0
 CountsAsParts t w =
     (p : TestPoint (points_of t.order).real.ops.carrier)
-    → count (points_of t.order).real (polygon_of_whole t w) p ≡ sum_over (λ x. count (points_of t.order).real (polygon_of_part t x) p) (parts_of w)
+    → count (points_of t.order).real (polygon_of_whole t w) p
+    ≡ sum_over (λ x. count (points_of t.order).real (polygon_of_part t x) p) (whole_parts w)
 
 -- this holds for each whole tile of a frame
 abbrev pub WholesCountLaw : Tiling → Type 0

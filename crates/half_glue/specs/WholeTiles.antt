@@ -46,7 +46,8 @@ abbrev pub IsPartOf : Tiling → FrameValue → WholeTile → PlacedTile → Typ
 IsPartOf t f w x = IsOneOf t (lifted_tile t f x) w.first w.second
 
 -- The whole tiles of the given tiles. Each has a part among them, and each of them is a part of one.
-pub record AreWholeTilesOf (t : Tiling) (f : FrameValue) (tiles : List PlacedTile) (wholes : List WholeTile) : Type 0 where
+pub record AreWholeTilesOf (t : Tiling) (f : FrameValue) (tiles : List PlacedTile)
+    (wholes : List WholeTile) : Type 0 where
   pub whole : All (IsWholeTile t f) wholes
   pub of_given : All (λ w. (x : PlacedTile) × Contains tiles x × IsPartOf t f w x) wholes
   pub each_joined : All (λ x. (w : WholeTile) × Contains wholes w × IsPartOf t f w x) tiles

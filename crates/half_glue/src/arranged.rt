@@ -1,11 +1,11 @@
 //! Puts whole tiles in order, each exactly once.
 ghost use Rattle.std.specs.Prelude.{◌≡◌, ◌<◌, ◌^◌, ◌++◌, All, length, IfOk};
 ghost use Rattle.theory_walks.specs.Frames.{FrameValue};
-ghost use Rattle.half_glue.specs.Found.{tile_of};
-ghost use Rattle.half_glue.specs.InOrder.{AreInOrder};
+ghost use Rattle.half_glue.specs.Found.{given_tile};
+ghost use Rattle.half_glue.specs.InOrder.{AreWholesInOrder};
 ghost use Rattle.theory_addresses.specs.Search.{chosen_below};
-ghost use Rattle.half_glue.specs.Keys.{HasKey, first_keys, is_new, whole_at};
-ghost use Rattle.half_glue.specs.Arranged.{AreArranged};
+ghost use Rattle.half_glue.specs.Keys.{HasTileKey, first_keys, is_new_key, whole_at};
+ghost use Rattle.half_glue.specs.Arranged.{AreWholesArranged};
 ghost use Rattle.half_glue.specs.Lifted.{IsNoDeeper, lifted_to, whole_of, wholes_of};
 ghost use Rattle.half_glue.specs.Pairs.{ArePresent};
 ghost use Rattle.tile_place.specs.declared.order_key.OrderKey as key;
@@ -29,10 +29,10 @@ pub(crate) fn arranged(
 ) -> Result<Vec<WholeTile>, NoMemory>
     requires few { length made.now.pairs.items < 2 ^ 32 }
     requires numbered { All (ArePresent (length (tiles.now ++ made.now.crossed.items))) made.now.pairs.items }
-    requires fit { All HasKey (tiles.now ++ made.now.crossed.items) }
+    requires fit { All HasTileKey (tiles.now ++ made.now.crossed.items) }
     requires no_deeper { All (IsNoDeeper frame.now) (tiles.now ++ made.now.crossed.items) }
-    ensures in_order { IfOk result (λ wholes. AreInOrder wholes.items) }
-    ensures same { IfOk result (λ wholes. AreArranged
+    ensures in_order { IfOk result (λ wholes. AreWholesInOrder wholes.items) }
+    ensures same { IfOk result (λ wholes. AreWholesArranged
         (wholes_of frame.now (tiles.now ++ made.now.crossed.items) made.now.pairs.items) wholes.items) }
 {
     let mut keys = keys(alloc, tiles, made)?;
@@ -44,7 +44,7 @@ pub(crate) fn arranged(
 fn keys(alloc: Global, tiles: &[PlacedTile], made: &Pairs) -> Result<Vec<OrderKey>, NoMemory>
     requires few { length made.now.pairs.items < 2 ^ 32 }
     requires numbered { All (ArePresent (length (tiles.now ++ made.now.crossed.items))) made.now.pairs.items }
-    requires fit { All HasKey (tiles.now ++ made.now.crossed.items) }
+    requires fit { All HasTileKey (tiles.now ++ made.now.crossed.items) }
     ensures { IfOk result (λ keys. (f : FrameValue)
         → keys.items ≡ first_keys (wholes_of f (tiles.now ++ made.now.crossed.items)
         made.now.pairs.items)) }
@@ -70,7 +70,7 @@ fn picked(
     requires numbered { All (ArePresent (length (tiles.now ++ made.now.crossed.items))) made.now.pairs.items }
     requires no_deeper { All (IsNoDeeper frame.now) (tiles.now ++ made.now.crossed.items) }
     ensures { IfOk result (λ wholes. (blank : whole.WholeTile) → wholes.items
-        ≡ chosen_below (is_new keys.now) (whole_at
+        ≡ chosen_below (is_new_key keys.now) (whole_at
         (wholes_of frame.now (tiles.now ++ made.now.crossed.items) made.now.pairs.items) blank keys.now)
         (length keys.now)) }
 {
@@ -89,7 +89,7 @@ fn picked(
 /// Returns true if the key at `place` differs in place or kind from the key before, or has none before it.
 pub(crate) fn is_new(keys: &[OrderKey], place: usize) -> bool
     requires below { place < length keys.now }
-    ensures { result ≡ is_new keys.now place }
+    ensures { result ≡ is_new_key keys.now place }
 {
     if place == 0 {
         return true;
@@ -129,7 +129,7 @@ fn lifted(frame: &Frame, tile: &PlacedTile) -> PlacedTile
 /// Returns the tile with this number. The given tiles come first in the numbering, then the tiles crossed to.
 fn tile_of<'a>(tiles: &'a [PlacedTile], crossed: &'a [PlacedTile], number: u32) -> &'a PlacedTile
     requires below { number < length (tiles.now ++ crossed.now) }
-    ensures { result.now ≡ tile_of (tiles.now ++ crossed.now) number }
+    ensures { result.now ≡ given_tile (tiles.now ++ crossed.now) number }
 {
     let place = number as usize;
     if place < tiles.len() {

@@ -9,7 +9,7 @@ ghost use Rattle.theory_windows.specs.Limits.{most_tiles};
 ghost use Rattle.window_cover.specs.InOrder as covered;
 ghost use Rattle.half_glue.specs.Causes.{HasGlueCause};
 ghost use Rattle.half_glue.specs.Depth.{IsTooShallow};
-ghost use Rattle.half_glue.specs.Found.{StandsAmong, IsJoined, tile_of};
+ghost use Rattle.half_glue.specs.Found.{StandsAmong, IsJoined, given_tile};
 ghost use Rattle.half_glue.specs.Given.{AreToGlue};
 ghost use Rattle.half_glue.specs.Limits.{CanBeJoined};
 ghost use Rattle.half_glue.specs.Sides.{AreSides, IsOtherSide};
@@ -45,13 +45,13 @@ pub(crate) fn other_half<L: Ledger>(
     requires below { number < length tiles.now }
     ensures frame { GrowsTo (tiling_of machine.now) frame.old frame.new }
     ensures joined { IfOk result (IsJoined (tiling_of machine.now) frame.old frame.new tiles.now
-        (tile_of tiles.now number)) }
+        (given_tile tiles.now number)) }
     ensures least { (n : ℕ) → length frame.old.digits ≤ n → n < length frame.new.digits
-        → IsTooShallow (tiling_of machine.now) frame.old (tile_of tiles.now number ∷ []) n }
+        → IsTooShallow (tiling_of machine.now) frame.old (given_tile tiles.now number ∷ []) n }
     ensures answered { CanBeJoined (tiling_of machine.now) (full (tiling_of machine.now) frame.old)
-        (tile_of tiles.now number) → IsOk result }
+        (given_tile tiles.now number) → IsOk result }
     ensures cause { IfErr result (λ fault. HasGlueCause (tiling_of machine.now) frame.old frame.new
-        (tile_of tiles.now number ∷ []) fault) }
+        (given_tile tiles.now number ∷ []) fault) }
 {
     glue_laws(machine);
     let kind = tiles.kind(number);

@@ -4,10 +4,10 @@ ghost use Rattle.theory_addresses.specs.Search.{chosen_below};
 ghost use Rattle.theory_walks.specs.Frames.{FrameValue};
 ghost use Rattle.tile_place.specs.Keys.{key_of};
 ghost use Rattle.tile_place.specs.declared.order_key.OrderKey as key;
-ghost use Rattle.half_glue.specs.Arranged.{AreArranged};
-ghost use Rattle.half_glue.specs.Found.{tile_of};
-ghost use Rattle.half_glue.specs.InOrder.{AreInOrder};
-ghost use Rattle.half_glue.specs.Keys.{HasKey, first_keys, is_new, pair_at};
+ghost use Rattle.half_glue.specs.Arranged.{AreWholesArranged};
+ghost use Rattle.half_glue.specs.Found.{given_tile};
+ghost use Rattle.half_glue.specs.InOrder.{AreWholesInOrder};
+ghost use Rattle.half_glue.specs.Keys.{HasTileKey, first_keys, is_new_key, pair_at};
 ghost use Rattle.half_glue.specs.Lifted.{wholes_of};
 ghost use Rattle.half_glue.specs.Pairs.{ArePresent};
 
@@ -26,13 +26,13 @@ pub(crate) fn ordered(
 ) -> Result<Vec<Pair>, NoMemory>
     requires few { length made.now.pairs.items < 2 ^ 32 }
     requires numbered { All (ArePresent (length (tiles.now ++ made.now.crossed.items))) made.now.pairs.items }
-    requires fit { All HasKey (tiles.now ++ made.now.crossed.items) }
+    requires fit { All HasTileKey (tiles.now ++ made.now.crossed.items) }
     ensures numbered { IfOk result (λ pairs. All (ArePresent (length (tiles.now ++ made.now.crossed.items)))
         pairs.items) }
     ensures in_order { IfOk result (λ pairs. (f : FrameValue)
-        → AreInOrder (wholes_of f (tiles.now ++ made.now.crossed.items) pairs.items)) }
+        → AreWholesInOrder (wholes_of f (tiles.now ++ made.now.crossed.items) pairs.items)) }
     ensures same { IfOk result (λ pairs. (f : FrameValue)
-        → AreArranged (wholes_of f (tiles.now ++ made.now.crossed.items) made.now.pairs.items)
+        → AreWholesArranged (wholes_of f (tiles.now ++ made.now.crossed.items) made.now.pairs.items)
         (wholes_of f (tiles.now ++ made.now.crossed.items) pairs.items)) }
 {
     let mut keys = keys(alloc, tiles, made)?;
@@ -44,7 +44,7 @@ pub(crate) fn ordered(
 fn keys(alloc: Global, tiles: &CoveredTiles, made: &Pairs) -> Result<Vec<OrderKey>, NoMemory>
     requires few { length made.now.pairs.items < 2 ^ 32 }
     requires numbered { All (ArePresent (length (tiles.now ++ made.now.crossed.items))) made.now.pairs.items }
-    requires fit { All HasKey (tiles.now ++ made.now.crossed.items) }
+    requires fit { All HasTileKey (tiles.now ++ made.now.crossed.items) }
     ensures { IfOk result (λ keys. (f : FrameValue)
         → keys.items ≡ first_keys (wholes_of f (tiles.now ++ made.now.crossed.items)
         made.now.pairs.items)) }
@@ -62,9 +62,9 @@ fn keys(alloc: Global, tiles: &CoveredTiles, made: &Pairs) -> Result<Vec<OrderKe
 /// the tiles crossed to.
 fn key_of(tiles: &CoveredTiles, made: &Pairs, number: u32, own: u32) -> OrderKey
     requires below { number < length (tiles.now ++ made.now.crossed.items) }
-    requires fit { All HasKey (tiles.now ++ made.now.crossed.items) }
-    ensures { result ≡ key_of (tile_of (tiles.now ++ made.now.crossed.items) number).motion
-        (tile_of (tiles.now ++ made.now.crossed.items) number).kind own }
+    requires fit { All HasTileKey (tiles.now ++ made.now.crossed.items) }
+    ensures { result ≡ key_of (given_tile (tiles.now ++ made.now.crossed.items) number).motion
+        (given_tile (tiles.now ++ made.now.crossed.items) number).kind own }
 {
     let place = number as usize;
     let count = tiles.len();
@@ -79,7 +79,7 @@ fn key_of(tiles: &CoveredTiles, made: &Pairs, number: u32, own: u32) -> OrderKey
 /// Returns the pairs of those keys whose place and kind differ from those of the key before.
 fn picked(alloc: Global, made: &Pairs, keys: &[OrderKey]) -> Result<Vec<Pair>, NoMemory>
     requires keyed { All (λ (k : key.OrderKey). k.number < length made.now.pairs.items) keys.now }
-    ensures { IfOk result (λ picked. picked.items ≡ chosen_below (is_new keys.now)
+    ensures { IfOk result (λ picked. picked.items ≡ chosen_below (is_new_key keys.now)
         (pair_at made.now.pairs.items keys.now) (length keys.now)) }
 {
     let count = keys.len();

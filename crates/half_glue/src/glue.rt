@@ -5,7 +5,7 @@ ghost use Rattle.theory_walks.specs.Frames.{GrowsTo};
 ghost use Rattle.half_glue.specs.declared.glue_fault.GlueFault.TheVariants.{NoMemory};
 ghost use Rattle.half_glue.specs.Given.{AreToGlue};
 ghost use Rattle.half_glue.specs.WholeTiles.{AreWholeTilesOf};
-ghost use Rattle.half_glue.specs.InOrder.{AreInOrder};
+ghost use Rattle.half_glue.specs.InOrder.{AreWholesInOrder};
 ghost use Rattle.half_glue.specs.Depth.{IsLeastForGlue, IsTooShallow};
 ghost use Rattle.half_glue.specs.Glued.{AreGluedAs};
 ghost use Rattle.half_glue.specs.Limits.{CanBeGlued};
@@ -52,7 +52,7 @@ pub fn glue(
     // Exactly the whole tiles of the given tiles, each exactly once and in its place, at the least depth.
     ensures whole_tiles { IfOk result (λ wholes. AreWholeTilesOf (tiling_of machine.now) frame.new
         tiles.now.items wholes.items) }
-    ensures in_order { IfOk result (λ wholes. AreInOrder wholes.items) }
+    ensures in_order { IfOk result (λ wholes. AreWholesInOrder wholes.items) }
     ensures least { OnOk result (IsLeastForGlue (tiling_of machine.now) frame.old tiles.now.items
         (length frame.new.digits)) }
 

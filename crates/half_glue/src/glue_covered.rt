@@ -6,7 +6,7 @@ ghost use Rattle.window_cover.specs.InOrder as covered;
 ghost use Rattle.half_glue.specs.declared.glue_fault.GlueFault.TheVariants.{NoMemory};
 ghost use Rattle.half_glue.specs.Given.{AreToGlue};
 ghost use Rattle.half_glue.specs.WholeTiles.{AreWholeTilesOf};
-ghost use Rattle.half_glue.specs.InOrder.{AreInOrder};
+ghost use Rattle.half_glue.specs.InOrder.{AreWholesInOrder};
 ghost use Rattle.half_glue.specs.Depth.{IsLeastForGlue, IsTooShallow};
 ghost use Rattle.half_glue.specs.Glued.{AreGluedBy};
 ghost use Rattle.half_glue.specs.Limits.{CanBeGlued};
@@ -43,7 +43,7 @@ pub fn glue_covered(
     // Exactly the whole tiles of the given tiles, each exactly once and in its place, at the least depth.
     ensures whole_tiles { IfOk result (λ wholes. AreWholeTilesOf (tiling_of machine.now) frame.new tiles
         wholes) }
-    ensures in_order { IfOk result (λ wholes. AreInOrder wholes) }
+    ensures in_order { IfOk result (λ wholes. AreWholesInOrder wholes) }
     ensures least { OnOk result (IsLeastForGlue (tiling_of machine.now) frame.old tiles
         (length frame.new.digits)) }
 

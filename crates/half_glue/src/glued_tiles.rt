@@ -1,7 +1,7 @@
 //! The whole tiles of a window, to be read one at a time.
 ghost use Rattle.std.specs.Prelude.{◌≡◌, ◌<◌, ◌++◌, All, Some, length, slice_get, IfSome, IsTrue};
 ghost use Rattle.std.specs.Option.{is_some};
-ghost use Rattle.half_glue.specs.Found.{tile_of};
+ghost use Rattle.half_glue.specs.Found.{given_tile};
 ghost use Rattle.half_glue.specs.Lifted.{IsNoDeeper, lifted_to};
 
 use crate::pairs::Pair;
@@ -106,7 +106,7 @@ fn put_part(
     requires below { number < length (tiles.now ++ crossed.now) }
     requires no_deeper { All (IsNoDeeper frame.now) (tiles.now ++ crossed.now) }
     ensures { record { kind = kind.new; motion = motion.new; addr = addr.new } ≡ lifted_to frame.now
-        (tile_of (tiles.now ++ crossed.now) number) }
+        (given_tile (tiles.now ++ crossed.now) number) }
 {
     put_loose(tiles, crossed, number, kind, motion, addr);
     frame.raise(addr);
@@ -122,7 +122,7 @@ fn put_loose(
     addr: &mut Address,
 )
     requires below { number < length (tiles.now ++ crossed.now) }
-    ensures { record { kind = kind.new; motion = motion.new; addr = addr.new } ≡ tile_of
+    ensures { record { kind = kind.new; motion = motion.new; addr = addr.new } ≡ given_tile
         (tiles.now ++ crossed.now) number }
 {
     let place = number as usize;

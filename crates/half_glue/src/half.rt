@@ -15,9 +15,9 @@ ghost use Rattle.theory_walks.specs.Frames.{whole, IsFrameOf, GrowsTo};
 ghost use Rattle.lazy_walk.specs.Standing.{Stands};
 ghost use Rattle.half_glue.specs.Causes.{HasGlueCause};
 ghost use Rattle.half_glue.specs.Depth.{IsGluedInside, IsTooShallow};
-ghost use Rattle.half_glue.specs.Found.{StandsBeside, IsJoined, IsCrossed, tile_of};
+ghost use Rattle.half_glue.specs.Found.{KeyStandsBeside, IsJoined, IsOtherHalf, given_tile};
 ghost use Rattle.half_glue.specs.Given.{IsGiven, AreGiven};
-ghost use Rattle.half_glue.specs.Keys.{key_order, AreKeysOf};
+ghost use Rattle.half_glue.specs.Keys.{whole_order, AreKeysOf};
 ghost use Rattle.half_glue.specs.Limits.{CanBeJoined};
 ghost use Rattle.half_glue.specs.Sides.{AreSides, IsOtherSide};
 
@@ -65,13 +65,13 @@ pub(crate) fn other_half<L: Ledger>(
     requires below { number < length tiles.now }
     ensures frame { GrowsTo (tiling_of machine.now) frame.old frame.new }
     ensures joined { IfOk result (IsJoined (tiling_of machine.now) frame.old frame.new tiles.now
-        (tile_of tiles.now number)) }
+        (given_tile tiles.now number)) }
     ensures least { (n : ℕ) → length frame.old.digits ≤ n → n < length frame.new.digits
-        → IsTooShallow (tiling_of machine.now) frame.old (tile_of tiles.now number ∷ []) n }
+        → IsTooShallow (tiling_of machine.now) frame.old (given_tile tiles.now number ∷ []) n }
     ensures answered { CanBeJoined (tiling_of machine.now) (full (tiling_of machine.now) frame.old)
-        (tile_of tiles.now number) → IsOk result }
+        (given_tile tiles.now number) → IsOk result }
     ensures cause { IfErr result (λ fault. HasGlueCause (tiling_of machine.now) frame.old frame.new
-        (tile_of tiles.now number ∷ []) fault) }
+        (given_tile tiles.now number ∷ []) fault) }
 {
     glue_laws(machine);
     let tile = &tiles[number];
@@ -94,10 +94,10 @@ fn given_half(
     tile: &PlacedTile,
 ) -> Option<u32>
     requires other { IfSome side.now.other (IsOtherSide (tiling_of machine.now) tile.now.kind side.now.edge) }
-    requires sorted { IsSorted key_order keys.now }
+    requires sorted { IsSorted whole_order keys.now }
     requires turn_below { tile.now.motion.turn < (points_of machine.now.order).order }
     requires within { IsWithin (2 ^ 24) tile.now.motion.shift }
-    ensures { IfSome result (StandsBeside machine.now.order side.now.other tile.now.motion keys.now) }
+    ensures { IfSome result (KeyStandsBeside machine.now.order side.now.other tile.now.motion keys.now) }
 {
     let order = machine.checked().order();
     let other = side.other?;
@@ -120,7 +120,7 @@ pub(crate) fn crossed_half<L: Ledger>(
     requires given { IsGiven (tiling_of machine.now) frame.old tile.now }
     requires glue_edge { IsOnlyGlueEdge (tiling_of machine.now).rule tile.now.kind edge }
     ensures frame { GrowsTo (tiling_of machine.now) frame.old frame.new }
-    ensures crossed { IfOk result (IsCrossed (tiling_of machine.now) frame.new tile.now) }
+    ensures crossed { IfOk result (IsOtherHalf (tiling_of machine.now) frame.new tile.now) }
     ensures inside { OnOk result (IsGluedInside (tiling_of machine.now) frame.old (length frame.new.digits)
         tile.now) }
     ensures can_be_joined { OnOk result (CanBeJoined (tiling_of machine.now)

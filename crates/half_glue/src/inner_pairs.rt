@@ -5,7 +5,7 @@ ghost use Rattle.rule_model.specs.Tiling.{tiling_of};
 ghost use Rattle.theory_windows.specs.Limits.{most_tiles};
 ghost use Rattle.window_cover.specs.InOrder as covered;
 ghost use Rattle.half_glue.specs.Given.{AreGiven};
-ghost use Rattle.half_glue.specs.Inner.{IsPlaced, IsOfPair, IsInner, AreInner, AreRising};
+ghost use Rattle.half_glue.specs.Inner.{IsTilePlaced, IsOfPair, IsInnerPair, AreInner, AreRising};
 ghost use Rattle.half_glue.specs.Pairs.{ArePresent};
 ghost use Rattle.half_glue.specs.Sides.{AreSides};
 
@@ -30,7 +30,7 @@ pub(crate) fn inner_pairs(
     taken: &mut [bool],
 ) -> Result<Vec<Pair>, NoMemory>
     requires few { length tiles.now ≤ most_tiles }
-    requires placed { All (IsPlaced (tiling_of machine.now)) tiles.now }
+    requires placed { All (IsTilePlaced (tiling_of machine.now)) tiles.now }
     requires in_order { covered.AreInOrder tiles.now }
     requires sides { AreSides (tiling_of machine.now) sides.now }
     requires as_many { length taken.old ≡ length tiles.now }
@@ -60,7 +60,7 @@ fn inner_pair(
     number: usize,
 ) -> Option<Pair>
     requires few { length tiles.now ≤ most_tiles }
-    requires placed { All (IsPlaced (tiling_of machine.now)) tiles.now }
+    requires placed { All (IsTilePlaced (tiling_of machine.now)) tiles.now }
     requires in_order { covered.AreInOrder tiles.now }
     requires sides { AreSides (tiling_of machine.now) sides.now }
     requires below { number < length tiles.now }
@@ -68,7 +68,7 @@ fn inner_pair(
     ensures present { IfSome result (ArePresent (length tiles.now)) }
     ensures inner { IfSome result (λ pair. (f : FrameValue) → IsFrameOf (tiling_of machine.now) f
         → AreGiven (tiling_of machine.now) f tiles.now
-        → IsInner (tiling_of machine.now) f tiles.now pair) }
+        → IsInnerPair (tiling_of machine.now) f tiles.now pair) }
 {
     glue_laws(machine);
     let kind = tiles.kind(number);

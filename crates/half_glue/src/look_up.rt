@@ -4,7 +4,7 @@ ghost use Rattle.std.specs.List.{Contains};
 ghost use Rattle.std.specs.List.Sorted.{IsPermutation, IsSorted};
 ghost use Rattle.cyclo_points.specs.Point.{IsWithin};
 ghost use Rattle.tile_place.specs.Keys.{key_of};
-ghost use Rattle.half_glue.specs.Keys.{HasKey, own_keys, key_order};
+ghost use Rattle.half_glue.specs.Keys.{HasTileKey, own_keys, whole_order};
 ghost use Rattle.theory_windows.specs.Limits.{most_tiles};
 
 use cyclo_points::motion::Motion;
@@ -16,9 +16,9 @@ use tile_shape::no_memory::NoMemory;
 /// Returns the keys of tiles, sorted.
 pub(crate) fn sorted_keys(alloc: Global, tiles: &[PlacedTile]) -> Result<Vec<OrderKey>, NoMemory>
     requires few { length tiles.now ≤ most_tiles }
-    requires fit { All HasKey tiles.now }
+    requires fit { All HasTileKey tiles.now }
     ensures same { IfOk result (λ keys. IsPermutation (own_keys tiles.now) keys.items) }
-    ensures sorted { IfOk result (λ keys. IsSorted key_order keys.items) }
+    ensures sorted { IfOk result (λ keys. IsSorted whole_order keys.items) }
 {
     let mut keys = keys(alloc, tiles)?;
     keys.sort_unstable();
@@ -28,7 +28,7 @@ pub(crate) fn sorted_keys(alloc: Global, tiles: &[PlacedTile]) -> Result<Vec<Ord
 /// Returns the keys of tiles, in the order of the tiles.
 fn keys(alloc: Global, tiles: &[PlacedTile]) -> Result<Vec<OrderKey>, NoMemory>
     requires few { length tiles.now ≤ most_tiles }
-    requires fit { All HasKey tiles.now }
+    requires fit { All HasTileKey tiles.now }
     ensures { IfOk result (λ keys. keys.items ≡ own_keys tiles.now) }
 {
     let count = tiles.len();
@@ -44,7 +44,7 @@ fn keys(alloc: Global, tiles: &[PlacedTile]) -> Result<Vec<OrderKey>, NoMemory>
 pub(crate) fn number_of(keys: &[OrderKey], motion: &Motion, kind: u8) -> Option<u32>
     requires within { IsWithin (2 ^ 24) motion.now.shift }
     requires turn_fits { motion.now.turn < 16 }
-    requires sorted { IsSorted key_order keys.now }
+    requires sorted { IsSorted whole_order keys.now }
     ensures found { IfSome result (λ number. Contains keys.now (key_of motion.now kind number)) }
     ensures none { result ≡ None → (number : ℕ) → ¬ Contains keys.now (key_of motion.now kind number) }
 {

@@ -3,7 +3,7 @@ ghost use Rattle.std.specs.Prelude.{◌≡◌, ◌+◌, ◌<◌, ◌≤◌, ◌+
 ghost use Rattle.tile_place.specs.Keys.{order_numbers};
 ghost use Rattle.window_cover.specs.InOrder as covered;
 ghost use Rattle.half_glue.specs.declared.pairs.Pair as pair;
-ghost use Rattle.half_glue.specs.Found.{tile_of};
+ghost use Rattle.half_glue.specs.Found.{given_tile};
 ghost use Rattle.half_glue.specs.Inner.{AreRising};
 ghost use Rattle.half_glue.specs.Merged.{AreMerged, ArePairsInOrder, IsMerging, IsPlaceAmong};
 
@@ -80,8 +80,8 @@ fn put_next(
 /// numbering, then the tiles crossed to.
 fn first_of(tiles: &CoveredTiles, crossed: &[PlacedTile], number: u32) -> (Motion, u8)
     requires below { number < length (tiles.now ++ crossed.now) }
-    ensures motion { result.0 ≡ (tile_of (tiles.now ++ crossed.now) number).motion }
-    ensures kind { result.1 ≡ (tile_of (tiles.now ++ crossed.now) number).kind }
+    ensures motion { result.0 ≡ (given_tile (tiles.now ++ crossed.now) number).motion }
+    ensures kind { result.1 ≡ (given_tile (tiles.now ++ crossed.now) number).kind }
 {
     let place = number as usize;
     let count = tiles.len();

@@ -1,7 +1,7 @@
 //! Pairs of halves.
 ghost use Rattle.std.specs.Prelude.{◌≡◌, ◌<◌, ◌≤◌, ◌++◌, nat_lt, length, OnOk};
-ghost use Rattle.half_glue.specs.Found.{IsNumbered};
-ghost use Rattle.half_glue.specs.Pairs.{pair_of, added_pairs, added_tiles};
+ghost use Rattle.half_glue.specs.Found.{IsNumberOfGiven};
+ghost use Rattle.half_glue.specs.Pairs.{halves_of, added_pairs, added_tiles};
 ghost use Rattle.theory_windows.specs.Limits.{most_tiles};
 
 use crate::half::Found;
@@ -36,7 +36,7 @@ pub(crate) fn put(
     requires few { length tiles.now ≤ most_tiles }
     requires below { number < length tiles.now }
     requires few_crossed { length made.old.crossed.items ≤ number }
-    requires numbered { IsNumbered tiles.now found }
+    requires numbered { IsNumberOfGiven tiles.now found }
     ensures pairs { OnOk result (made.new.pairs.items ≡ made.old.pairs.items
         ++ added_pairs tiles.now number (length made.old.crossed.items) found) }
     ensures crossed { OnOk result (made.new.crossed.items ≡ made.old.crossed.items ++ added_tiles found) }
@@ -75,7 +75,7 @@ pub(crate) fn put_covered(
     requires few { length tiles.now ≤ most_tiles }
     requires below { number < length tiles.now }
     requires few_crossed { length made.old.crossed.items ≤ number }
-    requires numbered { IsNumbered tiles.now found }
+    requires numbered { IsNumberOfGiven tiles.now found }
     ensures pairs { OnOk result (made.new.pairs.items ≡ made.old.pairs.items
         ++ added_pairs tiles.now number (length made.old.crossed.items) found) }
     ensures crossed { OnOk result (made.new.crossed.items ≡ made.old.crossed.items ++ added_tiles found) }
@@ -116,7 +116,7 @@ pub(crate) fn is_less(kind: u8, other: u8) -> bool
 
 /// Makes a pair of two halves, with the lesser kind first.
 fn pair_of(kind: u8, number: u32, other_kind: u8, other: u32) -> Pair
-    ensures { result ≡ pair_of kind number other_kind other }
+    ensures { result ≡ halves_of kind number other_kind other }
 {
     if kind < other_kind {
         Pair {

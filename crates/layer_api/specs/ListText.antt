@@ -20,9 +20,9 @@ second_text None = []
 second_text (Some p) = codes " + " ++ part_text p
 
 -- the line of a tile
-abbrev pub tile_line : Drawn → List ℕ
-tile_line d = part_text d.first ++ second_text d.second ++ newline ∷ []
+abbrev pub list_line : Drawn → List ℕ
+list_line d = part_text d.first ++ second_text d.second ++ newline ∷ []
 
 -- the lines of these tiles
 abbrev pub list_text : List Drawn → List ℕ
-list_text tiles = flat_map tile_line tiles
+list_text tiles = flat_map list_line tiles

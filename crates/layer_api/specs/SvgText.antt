@@ -33,7 +33,8 @@ half_text n = decimal (n / 2) ++ (if n % 2 == 0 then codes ".0" else codes ".5")
 
 -- the six figures of a number below 1,000,000
 abbrev pub six_figures : ℕ → List ℕ
-six_figures n = (48 + n / 100000 % 10) ∷ (48 + n / 10000 % 10) ∷ (48 + n / 1000 % 10) ∷ (48 + n / 100 % 10) ∷ (48 + n / 10 % 10) ∷ (48 + n % 10) ∷ []
+six_figures n = (48 + n / 100000 % 10) ∷ (48 + n / 10000 % 10) ∷ (48 + n / 1000 % 10) ∷ (48 + n / 100 % 10) ∷
+    (48 + n / 10 % 10) ∷ (48 + n % 10) ∷ []
 
 -- this number of millionths, as the whole part, a point and six figures
 abbrev pub millionths_text : ℕ → List ℕ
@@ -53,13 +54,16 @@ head_text v =
 -- a vertex: its X and Y from the centre in thousandths, rounded down to integers
 abbrev pub vertex_text : View → Point → List ℕ
 vertex_text v p =
-    let d : NumberOf v.order = difference (points_of v.order).ring (point_in v.order p) (point_in v.order v.centre) in
-    signed_decimal (thousandths v.order ((points_of v.order).x d)) ++ blank ∷ signed_decimal (thousandths v.order ((points_of v.order).y d))
+    let d : NumberOf v.order =
+    difference (points_of v.order).ring (point_in v.order p) (point_in v.order v.centre) in
+    signed_decimal (thousandths v.order ((points_of v.order).x d))
+    ++ blank ∷ signed_decimal (thousandths v.order ((points_of v.order).y d))
 
 -- the path of a tile: its class, and its vertices joined by `L`, whose code is 76
 abbrev pub path_line : View → Drawn → List ℕ
 path_line v d =
-    codes "<path class=\"k" ++ decimal d.class ++ codes "\" d=\"M" ++ join_with_byte 76 (map (vertex_text v) d.outline.items) ++ codes "Z\"/>\n"
+    codes "<path class=\"k" ++ decimal d.class ++ codes "\" d=\"M"
+    ++ join_with_byte 76 (map (vertex_text v) d.outline.items) ++ codes "Z\"/>\n"
 
 -- the end
 abbrev pub tail_text : List ℕ

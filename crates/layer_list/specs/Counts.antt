@@ -9,6 +9,7 @@ pub record IsCountOf (counts : List ℕ) (all : ℕ) (tiles : List Drawn) : Type
   pub in_all : all ≡ length tiles
 
 -- the counts are those of the tiles put; once the layer has ended, the text is their census
-pub record IsCensus (counts : List ℕ) (all : ℕ) (ended : Bool) (text : List ℕ) (kinds : ℕ) (tiles : List Drawn) : Type 0 where
+pub record IsCensus (counts : List ℕ) (all : ℕ) (ended : Bool) (text : List ℕ) (kinds : ℕ)
+    (tiles : List Drawn) : Type 0 where
   pub counted : IsCountOf counts all tiles
   pub made : IsTrue ended → text ≡ census_text kinds tiles

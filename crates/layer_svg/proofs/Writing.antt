@@ -5,7 +5,7 @@ use Rattle.std.proofs.lemmas.Grind.{flat_map-append}
 use Rattle.layer_api.specs.declared.drawn.Drawn.{Drawn}
 use Rattle.layer_api.specs.declared.view.View.{View}
 use Rattle.layer_api.specs.SvgText.{head_text, path_line}
-use Rattle.layer_svg.specs.Written.{opened_text, IsWritten}
+use Rattle.layer_svg.specs.Written.{opened_text, IsPictureWritten}
 
 first_path : (v : View) (d : Drawn) → head_text v ++ path_line v d ≡ opened_text v (d ∷ [])
 first_path v d = ap (λ t. head_text v ++ t) (sym (append-nil (path_line v d)))
@@ -19,7 +19,7 @@ next_path v e ds d =
 -- the first tile put writes the head too
 pub first_put : (v : View) (ended : Bool) (text line new : List ℕ) (d : Drawn) → ended ≡ false
     → length text ≡ 0 → line ≡ head_text v ++ path_line v d → new ≡ text ++ line
-    → (tiles : List Drawn) → IsWritten v ended text tiles → IsWritten v ended new (tiles ++ d ∷ [])
+    → (tiles : List Drawn) → IsPictureWritten v ended text tiles → IsPictureWritten v ended new (tiles ++ d ∷ [])
 first_put v true text line new d going empty e f tiles h = absurd (cc going)
 first_put v false text line new d going empty e f [] h = f ∙ ap (λ t. t ++ line) h ∙ e ∙ first_path v d
 first_put v false text line new d going empty e f (x ∷ xs) h = absurd (not_nothing v x xs (ap length (sym h) ∙ empty))
@@ -30,7 +30,7 @@ first_put v false text line new d going empty e f (x ∷ xs) h = absurd (not_not
 -- and each further one its path
 pub next_put : (v : View) (ended : Bool) (text line new : List ℕ) (d : Drawn) → ended ≡ false
     → (text ≡ [] → ⊥) → line ≡ path_line v d → new ≡ text ++ line
-    → (tiles : List Drawn) → IsWritten v ended text tiles → IsWritten v ended new (tiles ++ d ∷ [])
+    → (tiles : List Drawn) → IsPictureWritten v ended text tiles → IsPictureWritten v ended new (tiles ++ d ∷ [])
 next_put v true text line new d going some e f tiles h = absurd (cc going)
 next_put v false text line new d going some e f [] h = absurd (some h)
 next_put v false text line new d going some e f (x ∷ xs) h = f ∙ ap (λ t. t ++ line) h ∙ ap (λ t. opened_text v (x ∷ xs) ++ t) e ∙ next_path v x xs d

@@ -5,6 +5,6 @@ use Rattle.layer_api.specs.SvgText.{vertex_text}
 use Rattle.layer_svg.specs.declared.kept.Kept.{Kept}
 
 -- the place is empty, or has the text of its vertex at its end
-pub record IsKept (v : View) (k : Kept) : Type 0 where
+pub record IsTextKept (v : View) (k : Kept) : Type 0 where
   pub within : k.length ≤ 32
   pub text : 0 < k.length → drop (32 - k.length) k.text ≡ vertex_text v k.vertex

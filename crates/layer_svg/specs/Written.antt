@@ -11,6 +11,6 @@ opened_text v [] = []
 opened_text v (d ∷ ds) = head_text v ++ flat_map (path_line v) (d ∷ ds)
 
 -- the text written for these tiles, which is the whole picture once the layer has ended
-abbrev pub IsWritten : View → Bool → List ℕ → List Drawn → Type 0
-IsWritten v false text tiles = text ≡ opened_text v tiles
-IsWritten v true text tiles = text ≡ svg_text v tiles
+abbrev pub IsPictureWritten : View → Bool → List ℕ → List Drawn → Type 0
+IsPictureWritten v false text tiles = text ≡ opened_text v tiles
+IsPictureWritten v true text tiles = text ≡ svg_text v tiles

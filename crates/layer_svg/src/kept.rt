@@ -2,7 +2,7 @@
 ghost use Rattle.std.specs.Prelude.{◌≡◌, ◌-◌, ◌≤◌, All, IfOk, IfSome, drop};
 ghost use Rattle.layer_api.specs.declared.view.View.{View};
 ghost use Rattle.layer_api.specs.SvgText.{vertex_text};
-ghost use Rattle.layer_svg.specs.Kept.{IsKept};
+ghost use Rattle.layer_svg.specs.Kept.{IsTextKept};
 
 use cyclo_points::point::Point;
 use std::alloc::{AllocError, Global};
@@ -21,7 +21,7 @@ pub(crate) struct Kept {
 impl Kept {
     /// Makes an empty place.
     fn none() -> Kept
-        ensures { (v : View) → IsKept v result }
+        ensures { (v : View) → IsTextKept v result }
     {
         Kept {
             vertex: Point { c: [0; 4] },
@@ -33,7 +33,7 @@ impl Kept {
     /// Returns the text of a vertex and its length, if it is kept here. The text is at the end of 32 bytes.
     #[inline]
     pub(crate) fn text_of(&self, vertex: &Point) -> Option<(&[u8; 32], usize)>
-        ensures { (v : View) → IsKept v self.now
+        ensures { (v : View) → IsTextKept v self.now
             → IfSome result (λ found. (found.1 ≤ 32)
             × (drop (32 - found.1) found.0.now ≡ vertex_text v vertex.now)) }
     {
@@ -46,7 +46,8 @@ impl Kept {
     /// Keeps the text of this vertex instead, unless it is too long.
     #[inline(never)]
     pub(crate) fn keep(&mut self, vertex: &Point, text: &[u8])
-        ensures { (v : View) → IsKept v self.old → text.now ≡ vertex_text v vertex.now → IsKept v self.new }
+        ensures { (v : View) → IsTextKept v self.old → text.now ≡ vertex_text v vertex.now
+            → IsTextKept v self.new }
     {
         if text.len() <= 32 {
             self.vertex = *vertex;
@@ -58,7 +59,7 @@ impl Kept {
 
 /// Makes places that are all empty.
 pub(crate) fn empty_places(alloc: Global) -> Result<Vec<Kept>, AllocError>
-    ensures { (v : View) → IfOk result (λ places. All (IsKept v) places.items) }
+    ensures { (v : View) → IfOk result (λ places. All (IsTextKept v) places.items) }
 {
     let mut places = Vec::with_capacity(alloc, PLACES)?;
     for _ in 0..PLACES {

@@ -4,7 +4,7 @@ ghost use Rattle.std.specs.List.{join_with_byte};
 ghost use Rattle.layer_api.specs.declared.line.TheConstants.{LINE_ROOM};
 ghost use Rattle.layer_api.specs.Drawable.{IsNear, IsView};
 ghost use Rattle.layer_api.specs.SvgText.{vertex_text};
-ghost use Rattle.layer_svg.specs.Kept.{IsKept};
+ghost use Rattle.layer_svg.specs.Kept.{IsTextKept};
 
 use crate::kept::{Kept, place_of};
 use arrayvec::ArrayVec;
@@ -39,8 +39,8 @@ fn put_and_keep(line: &mut Line, view: &View, vertex: &Point, place: &mut Kept)
     requires room { length line.old + 43 ≤ LINE_ROOM }
     requires centre { IsView view.now }
     requires near { IsNear view.now.order vertex.now }
-    requires kept { IsKept view.now place.old }
-    ensures kept { IsKept view.now place.new }
+    requires kept { IsTextKept view.now place.old }
+    ensures kept { IsTextKept view.now place.new }
     ensures vertex { line.new ≡ vertex_text view.now vertex.now ++ line.old }
     ensures at_most { length line.new ≤ length line.old + 43 }
 {
@@ -56,8 +56,8 @@ fn put_kept_vertex(line: &mut Line, view: &View, vertex: &Point, kept: &mut [Kep
     requires room { length line.old + 43 ≤ LINE_ROOM }
     requires centre { IsView view.now }
     requires near { IsNear view.now.order vertex.now }
-    requires kept { All (IsKept view.now) kept.old }
-    ensures kept { All (IsKept view.now) kept.new }
+    requires kept { All (IsTextKept view.now) kept.old }
+    ensures kept { All (IsTextKept view.now) kept.new }
     ensures vertex { line.new ≡ vertex_text view.now vertex.now ++ line.old }
     ensures at_most { length line.new ≤ length line.old + 43 }
 {
@@ -83,8 +83,8 @@ pub(crate) fn put_path(
     requires centre { IsView view.now }
     requires three { 3 ≤ length outline.now.items }
     requires near { All (IsNear view.now.order) outline.now.items }
-    requires kept { All (IsKept view.now) kept.old }
-    ensures kept { All (IsKept view.now) kept.new }
+    requires kept { All (IsTextKept view.now) kept.old }
+    ensures kept { All (IsTextKept view.now) kept.new }
     ensures path { line.new ≡ codes "<path class=\"k" ++ decimal class ++ codes "\" d=\"M"
         ++ join_with_byte 76 (map (vertex_text view.now) outline.now.items) ++ codes "Z\"/>\n" }
     ensures at_most { length line.new ≤ 1100 }

@@ -1,7 +1,7 @@
 //! The layer that draws a picture as SVG.
 ghost use Rattle.std.specs.Prelude.{◌≡◌, IsFalse};
 ghost use Rattle.layer_api.specs.declared.format.Format.TheVariants.{Svg};
-ghost use Rattle.layer_svg.specs.Written.{IsWritten};
+ghost use Rattle.layer_svg.specs.Written.{IsPictureWritten};
 
 use crate::head::put_head;
 use crate::kept::{Kept, empty_places};
@@ -39,14 +39,14 @@ pub struct SvgLayer {
 impl Model for SvgLayer {
     ghost use Rattle.layer_api.specs.Drawable.{IsView};
     ghost use Rattle.std.specs.Prelude.{All};
-    ghost use Rattle.layer_svg.specs.Kept.{IsKept};
+    ghost use Rattle.layer_svg.specs.Kept.{IsTextKept};
     ghost use Rattle.layer_svg.specs.Picture.{Picture};
 
     ghost Value = { Picture };
 
     ghost view = { λ s. record { view = s.view; begun = s.begun; ended = s.ended; text = s.text.items } };
 
-    ghost invariant = { λ s. IsView s.view × All (IsKept s.view) s.kept.items };
+    ghost invariant = { λ s. IsView s.view × All (IsTextKept s.view) s.kept.items };
 }
 
 impl SvgLayer {
@@ -94,7 +94,7 @@ impl Layer for SvgLayer {
 
     ghost ended = { λ s. s.ended };
 
-    ghost draws = { λ s tiles. IsWritten s.view s.ended s.text tiles };
+    ghost draws = { λ s tiles. IsPictureWritten s.view s.ended s.text tiles };
 
     fn format(&self) -> Format {
         Format::Svg

@@ -20,8 +20,8 @@ pub record IsAncestor (t : Tiling) (f : Address) (a : Ancestor) : Type 0 where
   pub shift_within : IsWithin (2 ^ 24) a.motion.shift
   pub in_order : IsOf t.order a.motion.shift
 
--- The next ancestor outward from this level, of a frame that was f and is g: the frame has grown to it, unless it
--- was as deep already. Neither its power nor its shift is refused.
+-- The next ancestor outward from this level, of a frame that was f and is g: the frame has grown to it,
+-- unless it was as deep already. Neither its power nor its shift is refused.
 pub record IsNextOut (t : Tiling) (f g : FrameValue) (level : ℕ) (next : Ancestor) : Type 0 where
   pub one_more : next.level ≡ level + 1
   pub ancestor : IsAncestor t (full t f) next

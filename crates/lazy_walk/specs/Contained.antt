@@ -18,6 +18,7 @@ pub record IsContained (t : Tiling) (f : FrameValue) (p : NumberOf t.order) (til
   pub held : FrameHolds t f p
 
 -- the first refused value on the way outward to the point, as a point of its order
-pub record IsRefusedOutward (t : Tiling) (f : FrameValue) (p : NumberOf t.order) (limit : CoordLimit) : Type 0 where
+pub record IsRefusedOutward (t : Tiling) (f : FrameValue) (p : NumberOf t.order)
+    (limit : CoordLimit) : Type 0 where
   pub first : first_refused_outward t f p ≡ Some (point_in t.order limit.value)
   pub in_order : IsOf t.order limit.value

@@ -18,9 +18,10 @@ use Rattle.theory_walks.specs.Boundary.{IsBoundaryEdge}
 use Rattle.theory_walks.specs.Frames.{FrameValue, whole, lifted_at}
 use Rattle.lazy_walk.specs.declared.depth_limit.DepthLimit.{DepthLimit}
 
--- The tile b is the only one across edge e of a, lifted to the frame g, by the contact tables and in the plane. It
--- is of the frame, at its depth, and its edge `back` leads back. So edge e is not on the boundary.
-pub record IsCrossingIn (t : Tiling) (g : FrameValue) (a : Address) (e : ℕ) (b : Address) (back : ℕ) : Type 0 where
+-- The tile b is the only one across edge e of a, lifted to the frame g, by the contact tables and in the
+-- plane. It is of the frame, at its depth, and its edge `back` leads back. So edge e is not on the boundary.
+pub record IsCrossingIn (t : Tiling) (g : FrameValue) (a : Address) (e : ℕ) (b : Address)
+    (back : ℕ) : Type 0 where
   pub across : IsAcross (contacts t) (lifted_in (whole g) a) e b back
   pub only_tile_across : IsOnlyAcross t (lifted_in (whole g) a) e b back
   pub leads_back : IsOnlyAcross t b back (lifted_in (whole g) a) e
@@ -40,7 +41,8 @@ pub record IsLiftedTo64 (t : Tiling) (f : FrameValue) (before after : PlacedTile
   pub same_place : after.motion ≡ before.motion
   pub same_kind : after.kind ≡ before.kind
 
--- the tile is of the frame, with the digits of any depth that the frame has had, and its motion is within the limits
+-- the tile is of the frame, with the digits of any depth that the frame has had, and its motion is within the
+-- limits
 pub record IsToCross (t : Tiling) (f : FrameValue) (x : PlacedTile) : Type 0 where
   pub its_kind : x.kind ≡ x.addr.kind
   pub of_frame : IsTileOf (children t) (whole f) (address_of x.addr)
@@ -49,7 +51,8 @@ pub record IsToCross (t : Tiling) (f : FrameValue) (x : PlacedTile) : Type 0 whe
 -- From edge e of the tile a, with this motion, in the frame f one comes to the tile x in the frame g. It is
 -- the only one across, at the least depth at which the edge is not on the boundary, with the edge `back` that
 -- leads back. Its motion is the one that glues the two edges, followed by that of a.
-pub record IsCrossedTo (t : Tiling) (f g : FrameValue) (a : Address) (motion : Motion) (e : ℕ) (x : PlacedTile) (back : ℕ) : Type 0 where
+pub record IsCrossedTo (t : Tiling) (f g : FrameValue) (a : Address) (motion : Motion) (e : ℕ)
+    (x : PlacedTile) (back : ℕ) : Type 0 where
   pub its_kind : x.kind ≡ x.addr.kind
   pub of_frame : IsTileOf (children t) (whole g) (address_of x.addr)
   pub at_depth : depth (address_of x.addr) ≡ length g.digits

@@ -16,6 +16,7 @@ pub record Stands (t : Tiling) (f : FrameValue) (tile : PlacedTile) : Type 0 whe
   pub its_kind : tile.kind ≡ tile.addr.kind
   pub of_frame : IsTileOf (children t) (whole f) (address_of tile.addr)
   pub at_depth : depth (address_of tile.addr) ≡ length f.digits
-  pub in_frame : StandsInFrame (points_of t.order) t.rule (whole f) (address_of tile.addr) (motion_in t.order tile.motion)
+  pub in_frame : StandsInFrame (points_of t.order) t.rule (whole f) (address_of tile.addr)
+      (motion_in t.order tile.motion)
   pub turn_below : tile.motion.turn < (points_of t.order).order
   pub in_order : IsOf t.order tile.motion.shift

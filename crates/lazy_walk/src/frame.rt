@@ -30,7 +30,8 @@ impl Model for Frame {
 
     ghost Value = { FrameValue };
 
-    ghost view = { λ f. record { base = address_of f.base; start = f.growth.start; digits = map step_of f.digits.items } };
+    ghost view = { λ f. record
+        { base = address_of f.base; start = f.growth.start; digits = map step_of f.digits.items } };
 
     ghost invariant = { λ f. length f.base.digits.items + f.growth.taken ≡ length f.digits.items };
 }

@@ -14,7 +14,7 @@ use Rattle.listing_text.specs.declared.listing_fault.ListingFault.TheVariants as
 use Rattle.plane_geom.specs.declared.window.Window.{Window}
 use Rattle.rule_model.specs.declared.rule.Rule.{Rule}
 use Rattle.rule_model.specs.Tiling.{Tiling, tiling_of, children}
-use Rattle.window_cover.specs.Windows.{IsWindow, IsLeastEnough}
+use Rattle.window_cover.specs.Windows.{IsWindow, IsLeastForWindow}
 use Rattle.list_verify.specs.declared.list_fault.ListFault.{ListFault}
 use Rattle.list_verify.specs.declared.list_fault.ListFault.TheVariants.{TooLong, Double}
 use Rattle.list_verify.specs.Depth.{IsEnoughListed}
@@ -108,7 +108,7 @@ module _ (t : Tiling) (f g : FrameValue) (w : Window) (listing : List ℕ) (entr
 -- it stops with the fault, or finds a stray line
 abbrev IsWalkFault : Tiling → FrameValue → FrameValue → Window → List Entry → ListFault → Type 0
 IsWalkFault t g k w entries fault =
-    (GrowsTo t g k × ((n : ℕ) → IsLeastEnough t g w n → length k.digits ≤ n) × OrNoRoom (IsStoppedBy t g k w entries) fault)
+    (GrowsTo t g k × ((n : ℕ) → IsLeastForWindow t g w n → length k.digits ≤ n) × OrNoRoom (IsStoppedBy t g k w entries) fault)
     ⊎ ((k ≡ g) × IsStrayFault t g w entries fault)
 
 pub its-fault : {walk : Walk} {g k : FrameValue} {fault : ListFault} → IsNotRight walk g k fault

@@ -37,11 +37,11 @@ use Rattle.tile_place.proofs.Plane.{IsSettled, its_rule}
 use Rattle.tile_shape.specs.Accepted.{IsAcceptedAddress}
 use Rattle.tile_shape.specs.Usable.{AreUsable}
 use Rattle.tile_shape.specs.Views.{address_of}
-use Rattle.theory_windows.specs.FramePatch.{frame_patch, lifted_tile}
+use Rattle.theory_windows.specs.FramePatch.{frame_patch, tile_of_ancestor}
 use Rattle.theory_windows.specs.FrameWindow.{AreAllThatMeet, IsLeastDepth}
 use Rattle.theory_windows.proofs.Members.{no-more}
-use Rattle.window_cover.specs.Limits.{IsWithinLimits}
-use Rattle.window_cover.specs.Windows.{TileOf, box_of, AreDrawn, IsLeastEnough}
+use Rattle.window_cover.specs.Limits.{IsCoverWithinLimits}
+use Rattle.window_cover.specs.Windows.{TileOf, box_of, AreDrawn, IsLeastForWindow}
 use Rattle.window_cover.proofs.FrameNames.{lifted-self}
 use Rattle.list_verify.specs.Depth.{IsListedDepth, IsEnoughListed}
 use Rattle.list_verify.specs.Listing.{tile_listed, tiles_listed, IsVerified}
@@ -52,8 +52,8 @@ pub record IsListOf (t : Tiling) (f g : FrameValue) (w : Window) (tiles : List P
   pub grows : GrowsTo t f g
   pub drawn : AreDrawn t g w (map (placed_in t.order) tiles)
   pub stand : AllByRecursion (Stands t g) tiles
-  pub least : IsLeastEnough t f w (length g.digits)
-  pub within : IsWithinLimits t f w
+  pub least : IsLeastForWindow t f w (length g.digits)
+  pub within : IsCoverWithinLimits t f w
   pub written : IsWrittenOf tiles text
   pub some : 0 < length tiles
 
@@ -220,19 +220,20 @@ module _ (m : Rule) (settled : IsSettled m) (usable : AreUsable (children (tilin
       go [] h = tt
       go (x ∷ xs) h = (h x (inl refl), go xs (λ y i. h y (inr i)))
 
-  lifted_are : map (lifted_tile (whole g)) listing ≡ map (placed_in t.order) tiles
+  lifted_are : map (tile_of_ancestor (whole g)) listing ≡ map (placed_in t.order) tiles
   lifted_are = go tiles its_stand
     where
-      one : (x : PlacedTile) → Stands t g x → lifted_tile (whole g) (tile_listed t (tile_entry x)) ≡ placed_in t.order x
+      one : (x : PlacedTile) → Stands t g x → tile_of_ancestor (whole g) (tile_listed t (tile_entry x)) ≡ placed_in t.order x
       one x s = ap (λ a. record { address = a; motion = (placed_in t.order x).motion }) (lifted-self (whole g) (address_of x.addr) s.at_depth)
 
       go : (xs : List PlacedTile) → ((x : PlacedTile) → IsAmong x xs → Stands t g x)
-          → map (lifted_tile (whole g)) (tiles_listed t (tile_entries xs)) ≡ map (placed_in t.order) xs
+          → map (tile_of_ancestor (whole g)) (tiles_listed t (tile_entries xs)) ≡ map (placed_in t.order) xs
       go [] h = refl
       go (x ∷ xs) h = ap₂ (λ (y : TileOf t) (ys : List (TileOf t)). y ∷ ys) (one x (h x (inl refl))) (go xs (λ y i. h y (inr i)))
 
-  all_that_meet : AreAllThatMeet P.real (TileOf t) (frame_patch P T.rule (at_level F d)) (box_of t w) (map (lifted_tile (at_level F d)) listing)
-  all_that_meet = subst (λ a. AreAllThatMeet P.real (TileOf t) (frame_patch P T.rule a) (box_of t w) (map (lifted_tile a) listing)) (sym own_level)
+  all_that_meet : AreAllThatMeet P.real (TileOf t) (frame_patch P T.rule (at_level F d)) (box_of t w) (map (tile_of_ancestor (at_level F d)) listing)
+  all_that_meet = subst (λ a. AreAllThatMeet P.real (TileOf t) (frame_patch P T.rule a) (box_of t w) (map (tile_of_ancestor a) listing))
+      (sym own_level)
       (subst (AreAllThatMeet P.real (TileOf t) (frame_patch P T.rule (whole g)) (box_of t w)) (sym lifted_are) list.drawn)
 
   least_there : IsLeastDepth P T.rule F (box_of t w) (deepest_listed (length f.digits) listing) d

@@ -14,7 +14,7 @@ use Rattle.rule_model.specs.Tiling.{Tiling, tiling_of}
 use Rattle.tile_place.specs.declared.placed_tile.PlacedTile.{PlacedTile}
 use Rattle.tile_place.specs.Searched.{placed_in}
 use Rattle.window_cover.proofs.StartLimits.{not_beyond_start}
-use Rattle.window_cover.specs.Windows.{IsLeastEnough}
+use Rattle.window_cover.specs.Windows.{IsLeastForWindow}
 use Rattle.list_verify.specs.declared.crossed_edges.CrossedEdges.{CrossedEdges}
 use Rattle.list_verify.specs.declared.found_lines.FoundLines.{FoundLines}
 use Rattle.list_verify.specs.declared.list_fault.ListFault.{ListFault}
@@ -24,7 +24,7 @@ use Rattle.list_verify.specs.Faults.{OrNoRoom}
 use Rattle.list_verify.specs.FoundLines.{IsInPlace, AreMarked}
 use Rattle.list_verify.specs.ListLaws.{HasListLaws, HasWalkLaws}
 use Rattle.list_verify.specs.LookedUp.{IsLookedUp, IsNotFound}
-use Rattle.list_verify.specs.Walk.{IsOnFrame, HasNone, GoesOn, Stops}
+use Rattle.list_verify.specs.Walk.{IsOnFrame, HasNone, WalkGoesOn, Stops}
 use Rattle.list_verify.specs.Walked.{first_refused_at}
 use Rattle.list_verify.proofs.Came.{HasCome, IsNext, looked-up, not-found}
 use Rattle.list_verify.proofs.Sides.{sides-start}
@@ -55,7 +55,7 @@ module _ (walk : Walk) (W : HasWalkLaws walk.machine.now) (f : FrameValue) (on :
 
   module _ (g : FrameValue) (grows : GrowsTo t f g)
       (least : (n : ℕ) → length f.digits ≤ n → n < length g.digits → ¬ FrameHolds t (at_depth t n f) (point_in m.order walk.window.now.centre)) where
-    within : (n : ℕ) → IsLeastEnough t f walk.window.now n → length g.digits ≤ n
+    within : (n : ℕ) → IsLeastForWindow t f walk.window.now n → length g.digits ≤ n
     within = not_beyond_start m B.settled B.fits B.laws.search f on.lines.frame g grows walk.window.now on.window_fits least
 
     -- a value on the way to the centre is refused
@@ -85,7 +85,7 @@ module _ (walk : Walk) (W : HasWalkLaws walk.machine.now) (f : FrameValue) (on :
       }
 
       pub goes-on : (found : FoundLines) (number : ℕ) → IsLookedUp old found lines x number
-          → found.crossed ≡ old.crossed → GoesOn walk f g old found
+          → found.crossed ≡ old.crossed → WalkGoesOn walk f g old found
       goes-on found number n same_edges = record {
         stays = next.stays;
         more = next.more;

@@ -49,7 +49,7 @@ use Rattle.window_cover.specs.Causes.{IsRefusedShift}
 use Rattle.window_cover.specs.Windows.{TileOf, box_of, IsWindow, IsOfFrame}
 use Rattle.list_verify.specs.declared.found_lines.FoundLines.{FoundLines}
 use Rattle.list_verify.specs.Causes.{IsMissingTile, IsMisplaced}
-use Rattle.list_verify.specs.FoundLines.{entries_of, AreLinesIn, no_line, tile_of_line, tiles_found, IsInPlace, AreMarked, IsWalkedTo, HasMore}
+use Rattle.list_verify.specs.FoundLines.{entries_of, AreLinesIn, no_line, tile_of_line, tiles_listed_so_far, IsInPlace, AreMarked, IsWalkedTo, HasMoreLines}
 use Rattle.list_verify.specs.LineIndex.{HasAddress}
 use Rattle.list_verify.specs.Listing.{tile_listed, tiles_listed, NamesTileThere, HasAllTiles}
 use Rattle.list_verify.specs.ListLaws.{HasListLaws}
@@ -104,7 +104,7 @@ module _ (m : Rule) (settled : IsSettled m) (fits : StillFits (children (tiling_
     pub turn_below : x.motion.turn < P.order
     pub in_order : IsOf m.order x.motion.shift
     pub beyond : d < length g.digits → d < level_in F u.address
-    pub comes : ComesOnIn P (is_refused m.order) T F (box_of t w) listing (tiles_found t f lines numbers) u
+    pub comes : ComesOnIn P (is_refused m.order) T F (box_of t w) listing (tiles_listed_so_far t f lines numbers) u
 
   module _ (c : HasCome) where
     whole-tile : IsTileOf kinds F b
@@ -284,13 +284,13 @@ module _ (m : Rule) (settled : IsSettled m) (fits : StillFits (children (tiling_
 
       -- ---- what is found then
       module _ (marks : List Bool) (marked : AreMarked t f lines numbers marks) where
-        pub known-among : slice_get marks i ≡ Some true → IsAmong u (tiles_found t f lines numbers)
-        known-among known = subst (λ y. IsAmong y (tiles_found t f lines numbers)) its_tile
+        pub known-among : slice_get marks i ≡ Some true → IsAmong u (tiles_listed_so_far t f lines numbers)
+        known-among known = subst (λ y. IsAmong y (tiles_listed_so_far t f lines numbers)) its_tile
             (IsAmong-map (tile_of_line t f lines) i numbers ((marked.marked i).0 known))
 
         module _ (fresh : ¬ (slice_get marks i ≡ Some true)) where
           -- it is new
-          u-new : ¬ IsAmong u (tiles_found t f lines numbers)
+          u-new : ¬ IsAmong u (tiles_listed_so_far t f lines numbers)
           u-new k =
               let j = among-map (tile_of_line t f lines) u numbers k in
               let place = AllByRecursion-among (IsInPlace t f lines) j.0 numbers j.1 marked.in_place in
@@ -298,16 +298,16 @@ module _ (m : Rule) (settled : IsSettled m) (fits : StillFits (children (tiling_
               (slice_get_within lines i line at) (sym j.2 ∙ sym its_tile) in
               absurd (fresh ((marked.marked i).1 (subst (λ n. IsAmong n numbers) same j.1)))
 
-          more-tiles : tiles_found t f lines (numbers ++ i ∷ []) ≡ tiles_found t f lines numbers ++ u ∷ []
-          more-tiles = map-append (tile_of_line t f lines) numbers (i ∷ []) ∙ ap (λ y. tiles_found t f lines numbers ++ y ∷ []) its_tile
+          more-tiles : tiles_listed_so_far t f lines (numbers ++ i ∷ []) ≡ tiles_listed_so_far t f lines numbers ++ u ∷ []
+          more-tiles = map-append (tile_of_line t f lines) numbers (i ∷ []) ∙ ap (λ y. tiles_listed_so_far t f lines numbers ++ y ∷ []) its_tile
 
           pub new-walk : line.motion ≡ x.motion → is_refused m.order (point_in m.order x.motion.shift) ≡ false
               → IsWalkedTo t f w lines (numbers ++ i ∷ [])
           new-walk same kept = subst (λ ts. IsWalkOn P (is_refused m.order) T.rule F (box_of t w) listing ts) (sym more-tiles)
               (c.comes.onward (λ k. absurd (u-new k)) (ap (λ (h : MotionOf t). is_refused m.order h.shift) (sym c.its_motion) ∙ kept) (listed same))
 
-          pub new-among : IsAmong u (tiles_found t f lines (numbers ++ i ∷ []))
-          new-among = subst (IsAmong u) (sym more-tiles) (IsAmong-append_right u (tiles_found t f lines numbers) (u ∷ []) (inl refl))
+          pub new-among : IsAmong u (tiles_listed_so_far t f lines (numbers ++ i ∷ []))
+          new-among = subst (IsAmong u) (sym more-tiles) (IsAmong-append_right u (tiles_listed_so_far t f lines numbers) (u ∷ []) (inl refl))
 
           pub new-marked : line.motion ≡ x.motion → IsWithin (2 ^ 24) x.motion.shift
               → AreMarked t f lines (numbers ++ i ∷ []) (slice_set marks i true)
@@ -321,8 +321,8 @@ module _ (m : Rule) (settled : IsSettled m) (fits : StillFits (children (tiling_
     pub record IsNext (old new : FoundLines) : Type 0 where
       pub stays : g ≡ f
       pub are_marked : AreMarked t f lines new.lines.items new.marks.items
-      pub more : HasMore old.lines.items new.lines.items
-      pub among : IsAmong u (tiles_found t f lines new.lines.items)
+      pub more : HasMoreLines old.lines.items new.lines.items
+      pub among : IsAmong u (tiles_listed_so_far t f lines new.lines.items)
       pub walk : (((i : ℕ) → ¬ (slice_get old.marks.items i ≡ Some true))
           ⊎ IsWalkedTo t f w lines old.lines.items) → IsWalkedTo t f w lines new.lines.items
 
@@ -340,7 +340,7 @@ module _ (m : Rule) (settled : IsSettled m) (fits : StillFits (children (tiling_
           are_marked = subst (λ ns. AreMarked t f lines ns new.marks.items) (sym k.same_lines)
               (subst (λ ms. AreMarked t f lines old.lines.items ms) (sym k.same_marks) marked);
           more = ([], k.same_lines ∙ sym (append-nil old.lines.items));
-          among = subst (λ ns. IsAmong u (tiles_found t f lines ns)) (sym own_numbers ∙ sym k.same_lines)
+          among = subst (λ ns. IsAmong u (tiles_listed_so_far t f lines ns)) (sym own_numbers ∙ sym k.same_lines)
               (known-among number h.line h.is_line h.its_address old.marks.items mine k.known);
           walk = λ before. walked before;
         }
@@ -355,7 +355,7 @@ module _ (m : Rule) (settled : IsSettled m) (fits : StillFits (children (tiling_
               (subst (λ ms. AreMarked t f lines (numbers ++ number ∷ []) ms) (sym k.marked)
               (new-marked number h.line h.is_line h.its_address old.marks.items mine fresh k.its_motion k.shift_within));
           more = (number ∷ [], k.one_more);
-          among = subst (λ ns. IsAmong u (tiles_found t f lines ns)) (sym more-is)
+          among = subst (λ ns. IsAmong u (tiles_listed_so_far t f lines ns)) (sym more-is)
               (new-among number h.line h.is_line h.its_address old.marks.items mine fresh);
           walk = λ before. subst (λ ns. IsWalkedTo t f w lines ns) (sym more-is)
               (new-walk number h.line h.is_line h.its_address old.marks.items mine fresh k.its_motion (k.unrefused m.order c.in_order));

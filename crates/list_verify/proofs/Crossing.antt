@@ -41,9 +41,9 @@ use Rattle.theory_windows.specs.Outlines.{MeetsBox}
 use Rattle.theory_windows.specs.Patch.{HasAcross}
 use Rattle.theory_windows.specs.PatchWindow.{LiesAcross}
 use Rattle.theory_windows.proofs.Renamed.{lifted-tile}
-use Rattle.window_cover.specs.Causes.{IsDepthLimit}
+use Rattle.window_cover.specs.Causes.{IsCoverDepthLimit}
 use Rattle.window_cover.specs.Windows.{TileOf, box_of, IsWindow}
-use Rattle.list_verify.specs.FoundLines.{entries_of, AreLinesIn, no_line, tile_of_line, tiles_found, IsInPlace, AreFound, edge_of_line, edges_of_line, IsCrossedOver}
+use Rattle.list_verify.specs.FoundLines.{entries_of, AreLinesIn, no_line, tile_of_line, tiles_listed_so_far, IsInPlace, AreFound, edge_of_line, edges_of_line, IsCrossedOver}
 use Rattle.list_verify.specs.Listing.{tiles_listed}
 use Rattle.list_verify.specs.ListLaws.{HasListLaws}
 use Rattle.list_verify.specs.Walked.{IsStoppedBy}
@@ -79,7 +79,7 @@ module _ (m : Rule) (settled : IsSettled m) (fits : StillFits (children (tiling_
   a = address_of line.address
 
   abbrev tiles : List (TileOf t)
-  tiles = tiles_found t f lines numbers
+  tiles = tiles_listed_so_far t f lines numbers
 
   -- ---- the line
   pub place : IsInPlace t f lines i
@@ -136,7 +136,8 @@ module _ (m : Rule) (settled : IsSettled m) (fits : StillFits (children (tiling_
           further : {k l n : ℕ} → max k l ≡ n → k < n → k < l
           further h j = omega arith
 
-      pub crossed-over : (later : List ℕ) → IsAmong (in_frame P T.rule F b) (tiles_found t f lines later) → IsCrossedOver t f w lines later i e
+      pub crossed-over : (later : List ℕ) → IsAmong (in_frame P T.rule F b) (tiles_listed_so_far t f lines later)
+          → IsCrossedOver t f w lines later i e
       crossed-over later k met = (in_frame P T.rule F b, lies.edge, k, lies.among, lies.back)
 
       -- ---- and from there the edge that leads back is crossed to it
@@ -195,11 +196,11 @@ module _ (m : Rule) (settled : IsSettled m) (fits : StillFits (children (tiling_
           let its : tile_of_line t f lines j ≡ in_frame P T.rule F b = tile-is m settled fits L f w fit lines
           are j line at ∙ ap (in_frame P T.rule F) named in
           subst (λ (y : TileOf t). HasAcross P.real (TileOf t) (frame_patch P T.rule F)
-          (tiles_found t f lines later) (line_of P T.rule y back)) (sym its) (
+          (tiles_listed_so_far t f lines later) (line_of P T.rule y back)) (sym its) (
             in_frame P T.rule F own,
             lies'.edge,
             subst
-                (λ (y : TileOf t). IsAmong y (tiles_found t f lines later)) (sym name)
+                (λ (y : TileOf t). IsAmong y (tiles_listed_so_far t f lines later)) (sym name)
                 (IsAmong-map (tile_of_line t f lines) i later k),
             lies'.among,
             lies'.back,
@@ -222,7 +223,7 @@ module _ (m : Rule) (settled : IsSettled m) (fits : StillFits (children (tiling_
       pub limited : (addr : programmed.Address) (its : ℕ) → address_of addr ≡ lifted_at t f a 64 → its ≡ e
           → IsStoppedBy t f g w (entries_of lines) (DepthLimit addr its)
       limited addr its named same = record {
-        cause = subst (IsDepthLimit t g w addr) (sym same) (record {
+        cause = subst (IsCoverDepthLimit t g w addr) (sym same) (record {
           at_64 = at_64;
           tile = in_frame P T.rule F a;
           its_address = sym named;

@@ -10,7 +10,7 @@ use Rattle.theory_listings.proofs.FrameLines.{deepest-first}
 use Rattle.plane_geom.specs.declared.window.Window.{Window}
 use Rattle.rule_model.specs.Tiling.{Tiling, children}
 use Rattle.theory_windows.specs.FrameWindow.{IsLeastDepth}
-use Rattle.window_cover.specs.Windows.{box_of, IsLeastEnough}
+use Rattle.window_cover.specs.Windows.{box_of, IsLeastForWindow}
 use Rattle.list_verify.specs.Depth.{IsEnoughListed}
 use Rattle.list_verify.specs.Lifted.{deepest_entry}
 use Rattle.list_verify.specs.Listing.{tiles_listed}
@@ -32,7 +32,7 @@ module _ (t : Tiling) (f : FrameValue) (w : Window) (text : List ℕ) (n : ℕ) 
     lines-not_beyond = subst (λ es. deepest_entry t (length f.digits) es ≤ n) same enough.least.not_below
 
     -- and n is the least enough depth from there
-    pub enough-grown : (g : FrameValue) → GrowsTo t f g → length g.digits ≡ deepest_entry t (length f.digits) entries → IsLeastEnough t g w n
+    pub enough-grown : (g : FrameValue) → GrowsTo t f g → length g.digits ≡ deepest_entry t (length f.digits) entries → IsLeastForWindow t g w n
     enough-grown g grows deep =
         subst (λ k. IsLeastDepth (points_of t.order) t.rule (full t g) (box_of t w) k n) (sym deep)
         (subst (λ (a : Address). IsLeastDepth (points_of t.order) t.rule a (box_of t w)

@@ -18,7 +18,7 @@ use Rattle.list_verify.specs.declared.found_lines.FoundLines.{FoundLines}
 use Rattle.list_verify.specs.declared.walk.Walk.{Walk}
 use Rattle.list_verify.specs.FoundLines.{no_line, IsCrossedOver, AreCrossedOver, edges_of_line, edge_of_line, line_between}
 use Rattle.list_verify.specs.ListLaws.{HasListLaws, HasWalkLaws}
-use Rattle.list_verify.specs.Walk.{tiling_in, IsUnderWay, GoesOn}
+use Rattle.list_verify.specs.Walk.{tiling_in, IsUnderWay, WalkGoesOn}
 use Rattle.list_verify.proofs.Edges.{kind-exists, edge-is, more-among, one-over}
 use Rattle.list_verify.proofs.OneCrossing.{its-place, is-own}
 use Rattle.list_verify.proofs.Onward.{further}
@@ -28,7 +28,7 @@ use Rattle.list_verify.proofs.WalkLaws.{brings}
 -- so far the first n edges of the line's tile have a tile found across them
 abbrev pub HasCrossed : Walk → FrameValue → FrameValue → FoundLines → FoundLines → ℕ → ℕ → Type 0
 HasCrossed walk f g a b line n =
-    GoesOn walk f g a b × AreCrossedOver (tiling_in walk) f walk.window.now walk.lines.now b.lines.items line n
+    WalkGoesOn walk f g a b × AreCrossedOver (tiling_in walk) f walk.window.now walk.lines.now b.lines.items line n
 
 module _ (walk : Walk) (W : HasWalkLaws walk.machine.now) (f : FrameValue) (old : FoundLines)
     (way : IsUnderWay walk f old) (line : ℕ) (among : IsAmong line old.lines.items) where
@@ -75,7 +75,7 @@ module _ (walk : Walk) (W : HasWalkLaws walk.machine.now) (f : FrameValue) (old 
       many = own-corners.count
 
       -- ---- an edge, when the walk has gone on
-      module _ (few : length corners ≤ 12) (g : FrameValue) (b : FoundLines) (on : GoesOn walk f g old b) (n : ℕ)
+      module _ (few : length corners ≤ 12) (g : FrameValue) (b : FoundLines) (on : WalkGoesOn walk f g old b) (n : ℕ)
           (below : n < length corners) where
         pub still-found : IsAmong line b.lines.items
         still-found = more-among old.lines.items b.lines.items line on.more among
@@ -124,7 +124,7 @@ module _ (walk : Walk) (W : HasWalkLaws walk.machine.now) (f : FrameValue) (old 
           )
 
         -- it is crossed
-        pub crossed : (h : FrameValue) (c : FoundLines) → GoesOn walk g h b c → AreCrossedOver t f walk.window.now lines b.lines.items line n
+        pub crossed : (h : FrameValue) (c : FoundLines) → WalkGoesOn walk g h b c → AreCrossedOver t f walk.window.now lines b.lines.items line n
             → IsCrossedOver t g walk.window.now lines c.lines.items line n → HasCrossed walk f h old c line (n + 1)
         crossed h c next before own = (
           further walk f g old b on h c next,

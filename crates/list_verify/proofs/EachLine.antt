@@ -10,7 +10,7 @@ use Rattle.list_verify.specs.declared.found_lines.FoundLines.{FoundLines}
 use Rattle.list_verify.specs.declared.walk.Walk.{Walk}
 use Rattle.list_verify.specs.FoundLines.{AreCrossedOver, AreCrossedBefore, edges_of_line}
 use Rattle.list_verify.specs.ListLaws.{HasListLaws, HasWalkLaws}
-use Rattle.list_verify.specs.Walk.{tiling_in, GoesOn, HasEnded}
+use Rattle.list_verify.specs.Walk.{tiling_in, WalkGoesOn, HasEnded}
 use Rattle.list_verify.specs.Walked.{first_refused_at}
 use Rattle.list_verify.proofs.Chains.{slice_get-at}
 use Rattle.list_verify.proofs.Edges.{next-before, more-length}
@@ -21,10 +21,10 @@ use Rattle.list_verify.proofs.WalkLaws.{brings}
 -- so far the edges of the first n lines found have tiles found across them
 abbrev pub HasCrossedLines : Walk → FrameValue → FrameValue → FoundLines → FoundLines → ℕ → Type 0
 HasCrossedLines walk f g a b n =
-    GoesOn walk f g a b × AreCrossedBefore (tiling_in walk) f walk.window.now walk.lines.now b.lines.items n × (n ≤ length b.lines.items)
+    WalkGoesOn walk f g a b × AreCrossedBefore (tiling_in walk) f walk.window.now walk.lines.now b.lines.items n × (n ≤ length b.lines.items)
 
 -- at first none
-pub none-crossed : (walk : Walk) (f g : FrameValue) (a b : FoundLines) → GoesOn walk f g a b → HasCrossedLines walk f g a b 0
+pub none-crossed : (walk : Walk) (f g : FrameValue) (a b : FoundLines) → WalkGoesOn walk f g a b → HasCrossedLines walk f g a b 0
 none-crossed walk f g a b on = (on, (λ j i l at. absurd (none_below j l)), none_above (length b.lines.items))
   where
     none_below : (j : ℕ) → j < 0 → ⊥
@@ -49,7 +49,7 @@ module _ (walk : Walk) (W : HasWalkLaws walk.machine.now) (f g : FrameValue) (a 
     pub is-found : IsAmong line b.lines.items
     is-found = subst (λ k. IsAmong k b.lines.items) (sym is) (get_or-among b.lines.items n d below)
 
-    pub one-more : (h : FrameValue) (c : FoundLines) → GoesOn walk g h b c
+    pub one-more : (h : FrameValue) (c : FoundLines) → WalkGoesOn walk g h b c
         → AreCrossedOver t g walk.window.now walk.lines.now c.lines.items line (edges_of_line t walk.lines.now line)
         → HasCrossedLines walk f h a c (n + 1)
     one-more h c next over = (

@@ -24,30 +24,36 @@ use Rattle.theory_substitution.specs.RuleParts.{vertex, next}
 use Rattle.tile_place.specs.Corners.{AreCorners}
 use Rattle.tile_place.proofs.Plane.{IsSettled}
 use Rattle.window_cover.specs.Windows.{IsWindow}
-use Rattle.list_verify.specs.FoundLines.{AreLinesIn, AreFound, no_line, tile_of_line, tiles_found, HasMore, edges_of_line, edge_of_line, line_between, IsCrossedOver, AreCrossedOver, AreCrossedBefore}
+use Rattle.list_verify.specs.FoundLines.{AreLinesIn, AreFound, no_line, tile_of_line, tiles_listed_so_far, HasMoreLines, edges_of_line, edge_of_line, line_between, IsCrossedOver, AreCrossedOver, AreCrossedBefore}
 use Rattle.list_verify.specs.ListLaws.{HasListLaws}
 use Rattle.list_verify.proofs.Chains.{below_or}
 use Rattle.list_verify.proofs.Crossing.{place, of-frame}
 
 -- what lies across stays found
 pub still-over : (t : Tiling) (f : FrameValue) (w : Window) (lines : List program.Entry) (old new : List ℕ)
-    → HasMore old new → (i e : ℕ) → IsCrossedOver t f w lines old i e → IsCrossedOver t f w lines new i e
+    → HasMoreLines old new → (i e : ℕ) → IsCrossedOver t f w lines old i e → IsCrossedOver t f w lines new i e
 still-over t f w lines old new more i e over meets =
-    let h = over meets in
-    (h.0, h.1, subst (IsAmong h.0) (sym tiles) (IsAmong-append_left h.0 (tiles_found t f lines old) (tiles_found t f lines more.0) h.2), h.3, h.4)
+    let h = over meets in (
+      h.0,
+      h.1,
+      subst (IsAmong h.0) (sym tiles)
+          (IsAmong-append_left h.0 (tiles_listed_so_far t f lines old) (tiles_listed_so_far t f lines more.0) h.2),
+      h.3,
+      h.4,
+    )
   where
-    tiles : tiles_found t f lines new ≡ tiles_found t f lines old ++ tiles_found t f lines more.0
-    tiles = ap (tiles_found t f lines) more.1 ∙ map-append (tile_of_line t f lines) old more.0
+    tiles : tiles_listed_so_far t f lines new ≡ tiles_listed_so_far t f lines old ++ tiles_listed_so_far t f lines more.0
+    tiles = ap (tiles_listed_so_far t f lines) more.1 ∙ map-append (tile_of_line t f lines) old more.0
 
-pub more-more : (a b c : List ℕ) → HasMore a b → HasMore b c → HasMore a c
+pub more-more : (a b c : List ℕ) → HasMoreLines a b → HasMoreLines b c → HasMoreLines a c
 more-more a b c h k = (h.0 ++ k.0, k.1 ∙ ap (λ (xs : List ℕ). xs ++ k.0) h.1 ∙ append_assoc a h.0 k.0)
 
-pub more-among : (a b : List ℕ) (i : ℕ) → HasMore a b → IsAmong i a → IsAmong i b
+pub more-among : (a b : List ℕ) (i : ℕ) → HasMoreLines a b → IsAmong i a → IsAmong i b
 more-among a b i h k = subst (IsAmong i) (sym h.1) (IsAmong-append_left i a h.0 k)
 
 -- with one edge more
 pub one-over : (t : Tiling) (f : FrameValue) (w : Window) (lines : List program.Entry) (old new : List ℕ)
-    (i n : ℕ) → HasMore old new → AreCrossedOver t f w lines old i n
+    (i n : ℕ) → HasMoreLines old new → AreCrossedOver t f w lines old i n
     → IsCrossedOver t f w lines new i n → AreCrossedOver t f w lines new i (n + 1)
 one-over t f w lines old new i n more before last e l = at (below_or e n (omega arith))
   where
@@ -107,7 +113,7 @@ module _ (m : Rule) (settled : IsSettled m) (fits : StillFits (children (tiling_
 
 -- with all edges of one line more
 pub next-before : (t : Tiling) (f : FrameValue) (w : Window) (lines : List program.Entry) (old new : List ℕ)
-    (n line : ℕ) → HasMore old new → n < length old → slice_get old n ≡ Some line
+    (n line : ℕ) → HasMoreLines old new → n < length old → slice_get old n ≡ Some line
     → AreCrossedBefore t f w lines old n → AreCrossedOver t f w lines new line (edges_of_line t lines line) → AreCrossedBefore t f w lines new (n + 1)
 next-before t f w lines old new n line more within at before over j i l there = at_number (below_or j n (omega arith))
   where
@@ -122,5 +128,5 @@ next-before t f w lines old new n line more within at before over j i l there = 
         (inside (sym at ∙ ap (slice_get old) (sym e) ∙ old_there (omega arith))) over
     at_number (inr h) = λ e k. still-over t f w lines old new more i e (before j i h (old_there (omega arith)) e k)
 
-pub more-length : (a b : List ℕ) (n : ℕ) → HasMore a b → n < length a → n + 1 ≤ length b
+pub more-length : (a b : List ℕ) (n : ℕ) → HasMoreLines a b → n < length a → n + 1 ≤ length b
 more-length a b n h l = let e = ap length h.1 ∙ length-append a h.0 in omega (arith, l, e)

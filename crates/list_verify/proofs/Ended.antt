@@ -32,7 +32,7 @@ use Rattle.theory_windows.specs.Patch.{HasAcross}
 use Rattle.theory_windows.proofs.Members.{among-map, no-more}
 use Rattle.std.proofs.lemmas.List.{length-map}
 use Rattle.window_cover.specs.Windows.{TileOf, box_of, IsWindow}
-use Rattle.list_verify.specs.FoundLines.{entries_of, AreLinesIn, no_line, tile_of_line, tiles_found, IsInPlace, AreFound, AreCrossedBefore}
+use Rattle.list_verify.specs.FoundLines.{entries_of, AreLinesIn, no_line, tile_of_line, tiles_listed_so_far, IsInPlace, AreFound, AreCrossedBefore}
 use Rattle.list_verify.specs.Listing.{tile_listed, tiles_listed, AreOfOrder, NamesTileThere, HasAllTiles, HasStray}
 use Rattle.list_verify.specs.ListLaws.{HasListLaws}
 use Rattle.list_verify.specs.Walked.{IsFirstUnmarked, Tells}
@@ -65,7 +65,7 @@ module _ (m : Rule) (settled : IsSettled m) (fits : StillFits (children (tiling_
   listing = tiles_listed t entries
 
   abbrev tiles : List (TileOf t)
-  tiles = tiles_found t f lines numbers
+  tiles = tiles_listed_so_far t f lines numbers
 
   -- a line of the listing is one of the program, with its number
   record Numbered (x : TileOf t) : Type 0 where

@@ -28,7 +28,7 @@ use Rattle.theory_windows.specs.FrameLaws.{IsEdgeInFrame}
 use Rattle.theory_windows.specs.FramePatch.{growing_frame, in_frame, line_of}
 use Rattle.theory_windows.specs.GrowingPatch.{IsOfDepth, IsInner}
 use Rattle.theory_windows.specs.Outlines.{PlaneEdge, MeetsBox, edges, is_reverse}
-use Rattle.window_cover.specs.Windows.{TileOf, box_of, IsWindow, IsLeastEnough}
+use Rattle.window_cover.specs.Windows.{TileOf, box_of, IsWindow, IsLeastForWindow}
 use Rattle.list_verify.specs.FoundLines.{AreLinesIn, no_line, AreFound, edge_of_line, edges_of_line}
 use Rattle.list_verify.specs.ListLaws.{HasListLaws}
 use Rattle.list_verify.proofs.Crossing.{is-line, of-frame}
@@ -90,7 +90,7 @@ module _ (m : Rule) (settled : IsSettled m) (fits : StillFits (children (tiling_
         (here.0, omega (arith, here.1))
 
     -- where n is enough, the edge has a tile across it at that depth
-    inner : IsLeastEnough t f w n → IsInner P.real (TileOf t) (growing_frame P (is_refused m.order) T.rule F) n (line_of P T.rule u e)
+    inner : IsLeastForWindow t f w n → IsInner P.real (TileOf t) (growing_frame P (is_refused m.order) T.rule F) n (line_of P T.rule u e)
     inner enough =
         let least = (L.search.least T F all-names (is_refused m.order) (box_of t w) d n (omega (arith, low, within))).0 enough in
         least.enough.none_on_boundary u tile-at (line_of P T.rule u e)
@@ -127,7 +127,7 @@ module _ (m : Rule) (settled : IsSettled m) (fits : StillFits (children (tiling_
     same-line = ap (λ (y : Address). line_of P T.rule (record { address = a; motion = motion_beside P T.rule y.digits a.digits }) e) same-level
 
     -- it isn't on the boundary there
-    pub not-boundary : IsLeastEnough t f w n → ¬ IsBoundaryEdge t (lifted_at t f a n) e
+    pub not-boundary : IsLeastForWindow t f w n → ¬ IsBoundaryEdge t (lifted_at t f a n) e
     not-boundary enough on = refute (inner enough)
       where
         refute : IsInner P.real (TileOf t) (growing_frame P (is_refused m.order) T.rule F) n (line_of P T.rule u e) → ⊥
@@ -145,7 +145,7 @@ module _ (m : Rule) (settled : IsSettled m) (fits : StillFits (children (tiling_
 
   -- so a frame that grows only while the edge is on the boundary isn't beyond it
   pub not_beyond-edge : (g : FrameValue) → GrowsTo t f g → ((n : ℕ) → d ≤ n → n < length g.digits → IsBoundaryEdge t (lifted_at t f a n) e)
-      → (n : ℕ) → IsLeastEnough t f w n → length g.digits ≤ n
+      → (n : ℕ) → IsLeastForWindow t f w n → length g.digits ≤ n
   not_beyond-edge g grows least n enough = elim (cases_lt n (length g.digits)) [
     | inr l ↦ l
     | inl l ↦ absurd (not-boundary n enough.not_below (small l grows.is_frame.at_most_64) enough (least n enough.not_below l))

@@ -19,17 +19,17 @@ use Rattle.tile_place.specs.Crossed.{edges_of}
 use Rattle.tile_place.specs.Motions.{IsMotionOf}
 use Rattle.tile_shape.specs.declared.address.Address as programmed
 use Rattle.tile_shape.specs.Views.{address_of}
-use Rattle.window_cover.specs.Windows.{IsLeastEnough, box_of}
+use Rattle.window_cover.specs.Windows.{IsLeastForWindow, box_of}
 use Rattle.list_verify.specs.declared.crossed_edges.CrossedEdges.{CrossedEdges}
 use Rattle.list_verify.specs.declared.found_lines.FoundLines.{FoundLines}
 use Rattle.list_verify.specs.declared.list_fault.ListFault.{ListFault}
 use Rattle.list_verify.specs.declared.list_fault.ListFault.TheVariants.{DepthLimit}
 use Rattle.list_verify.specs.declared.walk.Walk.{Walk}
 use Rattle.list_verify.specs.Faults.{OrNoRoom}
-use Rattle.list_verify.specs.FoundLines.{no_line, IsInPlace, IsCrossedOver, AreSides, edges_of_line, edge_of_line}
+use Rattle.list_verify.specs.FoundLines.{no_line, IsInPlace, IsCrossedOver, AreMarkedSides, edges_of_line, edge_of_line}
 use Rattle.list_verify.specs.ListLaws.{HasListLaws, HasWalkLaws}
 use Rattle.list_verify.specs.LookedUp.{IsLookedUp, IsNotFound}
-use Rattle.list_verify.specs.Walk.{IsUnderWay, GoesOn, Stops}
+use Rattle.list_verify.specs.Walk.{IsUnderWay, WalkGoesOn, Stops}
 use Rattle.list_verify.proofs.Came.{HasCome, IsNext, looked-up, not-found}
 use Rattle.list_verify.proofs.Chains.{get_or-at}
 use Rattle.list_verify.proofs.Crossing.{place, is-line, of-frame, came, crossed-over, back-below, crossed-back, limited}
@@ -98,7 +98,7 @@ module _ (walk : Walk) (W : HasWalkLaws walk.machine.now) (f : FrameValue) (old 
       module _ (k : FrameValue) (grows : GrowsTo t f k)
           (least : (n : ℕ) → length f.digits ≤ n → n < length k.digits
           → IsBoundaryEdge t (lifted_at t f (address_of tile.addr) n) edge) where
-        within : (n : ℕ) → IsLeastEnough t f walk.window.now n → length k.digits ≤ n
+        within : (n : ℕ) → IsLeastForWindow t f walk.window.now n → length k.digits ≤ n
         within = not_beyond-edge m B.settled B.fits B.laws f walk.window.now way.on_frame.window_fits lines way.on_frame.lines
             old.lines.items old.marks.items way.lines_found line among edge exists meets k grows
             (λ n l h. subst (λ (a : Address). IsBoundaryEdge t (lifted_at t f a n) edge) (sym its-address) (least n l h))
@@ -167,14 +167,14 @@ module _ (walk : Walk) (W : HasWalkLaws walk.machine.now) (f : FrameValue) (old 
                   (ap (λ (o : CrossedEdges). length o.marks.items) same_edges ∙ way.sides.count)
 
               pub goes-on : (edges : CrossedEdges) → edges.marks.items ≡ slice_set found.crossed.marks.items (number * 12 + back) true
-                  → GoesOn walk f k old (record { lines = found.lines; marks = found.marks; crossed = edges })
+                  → WalkGoesOn walk f k old (record { lines = found.lines; marks = found.marks; crossed = edges })
               goes-on edges put = record {
                 stays = next.stays;
                 more = next.more;
                 under_way = record {
                   on_frame = way.on_frame;
                   lines_found = record { are_marked = next.are_marked; walk = next.walk (inr way.lines_found.walk) };
-                  sides = subst (AreSides t f walk.window.now lines found.lines.items)
+                  sides = subst (AreMarkedSides t f walk.window.now lines found.lines.items)
                       (sym (put ∙ ap (λ (o : CrossedEdges). slice_set o.marks.items (number * 12 + back) true) same_edges))
                       (sides-put t f walk.window.now lines found.lines.items old.crossed.marks.items number back below returned
                       (sides-more t f walk.window.now lines old.lines.items found.lines.items

@@ -36,7 +36,7 @@ use Rattle.std.specs.declared.result.Result.TheVariants.{Ok}
 use Rattle.theory_substitution.specs.Points.{Points}
 use Rattle.tile_place.proofs.Plane.{IsSettled, its_rule}
 use Rattle.tile_shape.specs.Views.{address_of}
-use Rattle.theory_windows.specs.FramePatch.{in_frame, lifted_tile}
+use Rattle.theory_windows.specs.FramePatch.{in_frame, tile_of_ancestor}
 use Rattle.theory_windows.specs.FrameWindow.{IsLeastDepth}
 use Rattle.theory_windows.specs.Meeting.{PolygonMeetsBox}
 use Rattle.theory_windows.proofs.Members.{among-map}
@@ -126,7 +126,7 @@ module _ (m : Rule) (settled : IsSettled m) (fits : StillFits (children (tiling_
         (AllByRecursion-from (λ (e : Entry). IsTileOf kinds (at_level F low) e.address) entries own-tile)
 
     abbrev lift : TileOf t → TileOf t
-    lift x = lifted_tile (at_level F low) x
+    lift x = tile_of_ancestor (at_level F low) x
 
     lifted-are : tiles_listed t (entries_of lines) ≡ map lift listing
     lifted-are = ap (tiles_listed t) are.are ∙ images entries
@@ -134,7 +134,7 @@ module _ (m : Rule) (settled : IsSettled m) (fits : StillFits (children (tiling_
         images : (es : List Entry) → tiles_listed t (map (entry_lifted (whole g)) es) ≡ map lift (tiles_listed t es)
         images [] = refl
         images (e ∷ es) = ap₂ (λ (x : TileOf t) (xs : List (TileOf t)). x ∷ xs)
-            (ap (λ a. lifted_tile a (tile_listed t e)) (sym whole-low)) (images es)
+            (ap (λ a. tile_of_ancestor a (tile_listed t e)) (sym whole-low)) (images es)
 
     abbrev others : List (TileOf t)
     others = tiles_listed t (entries_of lines)

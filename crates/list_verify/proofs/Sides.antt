@@ -4,26 +4,26 @@ use Rattle.theory_walks.specs.Frames.{FrameValue}
 use Rattle.listing_text.specs.declared.entry.Entry as program
 use Rattle.plane_geom.specs.declared.window.Window.{Window}
 use Rattle.rule_model.specs.Tiling.{Tiling}
-use Rattle.list_verify.specs.FoundLines.{HasMore, IsCrossedOver, AreSides}
+use Rattle.list_verify.specs.FoundLines.{HasMoreLines, IsCrossedOver, AreMarkedSides}
 use Rattle.list_verify.proofs.Edges.{still-over}
 use Rattle.list_verify.proofs.Marks.{same_or, set-length, set-other}
 
 -- none is marked at first
 pub sides-start : (t : Tiling) (f : FrameValue) (w : Window) (lines : List program.Entry) (numbers : List ℕ)
     (marks : List Bool) → length marks ≡ length lines * 12
-    → ((i : ℕ) → ¬ (slice_get marks i ≡ Some true)) → AreSides t f w lines numbers marks
+    → ((i : ℕ) → ¬ (slice_get marks i ≡ Some true)) → AreMarkedSides t f w lines numbers marks
 sides-start t f w lines numbers marks count none = record { count = count; over = λ i e l at. absurd (none (i * 12 + e) at) }
 
 -- with more lines found
 pub sides-more : (t : Tiling) (f : FrameValue) (w : Window) (lines : List program.Entry) (old new : List ℕ)
-    (marks : List Bool) → HasMore old new → AreSides t f w lines old marks
-    → AreSides t f w lines new marks
+    (marks : List Bool) → HasMoreLines old new → AreMarkedSides t f w lines old marks
+    → AreMarkedSides t f w lines new marks
 sides-more t f w lines old new marks more s = record { count = s.count; over = λ i e l at. still-over t f w lines old new more i e (s.over i e l at) }
 
 -- with one mark more
 pub sides-put : (t : Tiling) (f : FrameValue) (w : Window) (lines : List program.Entry) (numbers : List ℕ)
     (marks : List Bool) (j back : ℕ) → back < 12 → IsCrossedOver t f w lines numbers j back
-    → AreSides t f w lines numbers marks → AreSides t f w lines numbers (slice_set marks (j * 12 + back) true)
+    → AreMarkedSides t f w lines numbers marks → AreMarkedSides t f w lines numbers (slice_set marks (j * 12 + back) true)
 sides-put t f w lines numbers marks j back below own s = record {
   count = set-length marks (j * 12 + back) true ∙ s.count;
   over = λ i e l at. by_place i e l at (same_or (j * 12 + back) (i * 12 + e));

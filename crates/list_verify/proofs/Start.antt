@@ -25,7 +25,7 @@ use Rattle.tile_place.specs.declared.placed_tile.PlacedTile.{PlacedTile}
 use Rattle.tile_place.specs.Searched.{placed_in}
 use Rattle.tile_place.proofs.Plane.{IsSettled, its_rule}
 use Rattle.tile_shape.specs.Views.{address_of}
-use Rattle.theory_windows.specs.FramePatch.{growing_frame, in_frame, level_in, lifted_tile}
+use Rattle.theory_windows.specs.FramePatch.{growing_frame, in_frame, level_in, tile_of_ancestor}
 use Rattle.theory_windows.specs.GrowingPatch.{IsOfDepth}
 use Rattle.window_cover.specs.Windows.{TileOf, box_of, IsWindow}
 use Rattle.list_verify.specs.FoundLines.{entries_of, AreLinesIn}
@@ -72,15 +72,15 @@ module _ (m : Rule) (settled : IsSettled m) (fits : StillFits (children (tiling_
     own_among : IsAmong own (frame_tiles P T.rule (at_level F (length g.digits)))
     own_among = subst (λ y. IsAmong own (frame_tiles P T.rule y)) (sym (level-grown m settled fits f are.frame g grows)) stands.in_frame.among
 
-    of_depth : IsOfDepth P.real (TileOf t) (growing_frame P (is_refused m.order) T.rule F) (length g.digits) (lifted_tile F own)
+    of_depth : IsOfDepth P.real (TileOf t) (growing_frame P (is_refused m.order) T.rule F) (length g.digits) (tile_of_ancestor F own)
     of_depth = (L.search.lifted T F (its_names m settled fits L f w fit lines are) (is_refused m.order)
-        (length g.digits) its_depth (lifted_tile F own)).1 (own, own_among, refl)
+        (length g.digits) its_depth (tile_of_ancestor F own)).1 (own, own_among, refl)
 
     -- it has the name of its address
-    named : lifted_tile F own ≡ in_frame P T.rule F b
+    named : tile_of_ancestor F own ≡ in_frame P T.rule F b
     named =
         let c = (L.search.named T F (its_names m settled fits L f w fit lines are) (is_refused m.order)
-        (length g.digits) its_depth (lifted_tile F own)).0 of_depth in
+        (length g.digits) its_depth (tile_of_ancestor F own)).0 of_depth in
         c.3 ∙ ap (in_frame P T.rule F) (sym (one-address F b c.0 (length g.digits) stands.at_depth c.2 (ap (λ (y : TileOf t). y.address) c.3)))
 
     pub come : HasCome m settled fits L f w fit lines are g grows x []
@@ -105,7 +105,8 @@ module _ (m : Rule) (settled : IsSettled m) (fits : StillFits (children (tiling_
             (sym (level-holds t f d (at_depth t d f) p
             (level-at t f are.frame d (omega arith) are.frame.at_most_64)
             (at_depth-depth t f d are.frame.holds_base))
-            ∙ (L.search.levels T F (its_names m settled fits L f w fit lines are) (lifted_tile F own) of_depth.0 p holder.here.holds d of_levels).1
+            ∙ (L.search.levels T F (its_names m settled fits L f w fit lines are) (tile_of_ancestor F own) of_depth.0 p holder.here.holds d
+            of_levels).1
             (subst (λ (y : TileOf t). level_in F y.address ≤ d) (sym named) low))))
           where
             above : {n k : ℕ} → (k ≤ n → ⊥) → n < k

@@ -15,7 +15,8 @@ use Rattle.window_cover.specs.Windows.{TileOf, MeetsWindow, IsOfFrame}
 
 -- The tile of this address is of the frame, at the frame's own depth, and meets the window. It is the tile of
 -- no line's address, lifted to that depth.
-pub record IsMissingTile (t : Tiling) (g : FrameValue) (w : Window) (entries : List Entry) (addr : Address) : Type 0 where
+pub record IsMissingTile (t : Tiling) (g : FrameValue) (w : Window) (entries : List Entry)
+    (addr : Address) : Type 0 where
   pub tile : TileOf t
   pub its_address : tile.address ≡ address_of addr
   pub of_frame : IsOfFrame t g tile
@@ -24,7 +25,8 @@ pub record IsMissingTile (t : Tiling) (g : FrameValue) (w : Window) (entries : L
 
 -- The tile of line i, counted from 0, lifted to the frame's own depth, meets the window. It has this motion,
 -- and the line has another.
-pub record IsMisplaced (t : Tiling) (g : FrameValue) (w : Window) (entries : List Entry) (i : ℕ) (motion : Motion) : Type 0 where
+pub record IsMisplaced (t : Tiling) (g : FrameValue) (w : Window) (entries : List Entry) (i : ℕ)
+    (motion : Motion) : Type 0 where
   pub entry : Entry
   pub is_line : slice_get entries i ≡ Some entry
   pub tile : TileOf t

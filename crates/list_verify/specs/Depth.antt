@@ -21,4 +21,5 @@ pub record IsListedDepth (t : Tiling) (f : FrameValue) (listing : List ℕ) (n :
 pub record IsEnoughListed (t : Tiling) (f : FrameValue) (w : Window) (listing : List ℕ) (n : ℕ) : Type 0 where
   pub entries : List Entry
   pub read : listing_in (children t) listing ≡ Ok entries
-  pub least : IsLeastDepth (points_of t.order) t.rule (full t f) (box_of t w) (deepest_listed (length f.digits) (tiles_listed t entries)) n
+  pub least : IsLeastDepth (points_of t.order) t.rule (full t f) (box_of t w)
+      (deepest_listed (length f.digits) (tiles_listed t entries)) n

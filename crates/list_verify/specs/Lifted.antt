@@ -31,7 +31,8 @@ pub record AreLifted (kinds : List (List ℕ)) (f : Address) (entries lifted : L
   pub are : lifted ≡ map (entry_lifted f) entries
 
 -- the fault names the first line that is not of the frame
-pub record IsStranger (kinds : List (List ℕ)) (f : Address) (entries : List Entry) (fault : ListFault) : Type 0 where
+pub record IsStranger (kinds : List (List ℕ)) (f : Address) (entries : List Entry)
+    (fault : ListFault) : Type 0 where
   pub number : ℕ
   pub is : fault ≡ NotOfFrame (number + 1)
   pub first : IsFirstLine (λ (e : Entry). ¬ IsTileOf kinds f e.address) entries number

@@ -32,8 +32,8 @@ pub record HasListLaws (P : Points) : Type 0 where
   pub no_list_fault : FrameNoListFaultLaw P
   pub lifted : LiftedListingLaw P
 
--- what a machine's rule brings: it is accepted and its numbers exist; its contact tables have its child kinds;
--- with grown digits addresses still fit; and the laws over its points
+-- what a machine's rule brings: it is accepted and its numbers exist; its contact tables have its child
+-- kinds; with grown digits addresses still fit; and the laws over its points
 pub record HasWalkLaws (m : Rule) : Type 0 where
   pub accepted : IsAccepted m
   pub usable : IsUsable m

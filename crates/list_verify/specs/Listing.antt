@@ -31,7 +31,8 @@ AreOfOrder t entries = AllByRecursion (λ (e : Entry). IsOf t.order e.motion.shi
 -- listed exactly once, with its motion.
 pub record IsRightFor (t : Tiling) (f : FrameValue) (w : Window) (entries : List Entry) : Type 0 where
   pub of_order : AreOfOrder t entries
-  pub right : IsRightListing (points_of t.order) t.rule (full t f) (box_of t w) (length f.digits) (tiles_listed t entries)
+  pub right : IsRightListing (points_of t.order) t.rule (full t f) (box_of t w) (length f.digits)
+      (tiles_listed t entries)
 
 -- The text is read as a right listing of n lines. No value on the way to the centre is refused, and no shift
 -- of a tile that meets the window.
@@ -49,11 +50,14 @@ NamesTileThere t f w e = NamesMeeting (points_of t.order) t.rule (full t f) (box
 
 -- There is such a depth n. Each tile there that meets the window has a line with its motion, and no refused
 -- shift.
-pub record HasAllTiles (t : Tiling) (f : FrameValue) (w : Window) (m : ℕ) (entries : List Entry) : Type 0 where
-  pub all_listed : AreAllListed (points_of t.order) (is_refused t.order) t.rule (full t f) (box_of t w) m (tiles_listed t entries)
+pub record HasAllTiles (t : Tiling) (f : FrameValue) (w : Window) (m : ℕ)
+    (entries : List Entry) : Type 0 where
+  pub all_listed : AreAllListed (points_of t.order) (is_refused t.order) t.rule (full t f) (box_of t w) m
+      (tiles_listed t entries)
   pub of_order : AllByRecursion (λ (e : Entry). NamesTileThere t f w e → IsOf t.order e.motion.shift) entries
 
 -- This holds, and line i, counted from 0, is the first whose tile does not meet the window.
-pub record HasStray (t : Tiling) (f : FrameValue) (w : Window) (m : ℕ) (entries : List Entry) (i : ℕ) : Type 0 where
+pub record HasStray (t : Tiling) (f : FrameValue) (w : Window) (m : ℕ) (entries : List Entry)
+    (i : ℕ) : Type 0 where
   pub all_tiles : HasAllTiles t f w m entries
   pub first : IsFirstLine (λ e. ¬ NamesTileThere t f w e) entries i

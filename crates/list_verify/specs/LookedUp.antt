@@ -31,7 +31,8 @@ pub record IsNew (old new : FoundLines) (line : Entry) (tile : PlacedTile) (i : 
 
 -- The tile is looked for, and has the line with this number, which was found before or is found now. If it is
 -- found now, the tile is not refused, and the line has its motion.
-pub record IsLookedUp (old new : FoundLines) (lines : List Entry) (tile : PlacedTile) (number : ℕ) : Type 0 where
+pub record IsLookedUp (old new : FoundLines) (lines : List Entry) (tile : PlacedTile)
+    (number : ℕ) : Type 0 where
   pub line : Entry
   pub is_line : slice_get lines number ≡ Some line
   pub its_address : address_of line.address ≡ address_of tile.addr
@@ -43,9 +44,12 @@ IsMovedOtherwise a b = (o : Order) → IsOf o a.shift → IsOf o b.shift → ¬ 
 
 -- why the tile is not found: no line has its address, its line has another motion, or its shift is refused
 abbrev pub IsNotFound : Tiling → List Entry → PlacedTile → ListFault → Type 0
-IsNotFound t lines tile (Missing addr) = (address_of addr ≡ address_of tile.addr) × ((i : ℕ) → ¬ HasAddress lines i (address_of tile.addr))
+IsNotFound t lines tile (Missing addr) = (address_of addr ≡ address_of tile.addr)
+    × ((i : ℕ) → ¬ HasAddress lines i (address_of tile.addr))
 IsNotFound t lines tile (WrongPlace number motion) =
     (i : ℕ) × (number ≡ i + 1) × (motion ≡ tile.motion)
-    × (line : Entry) × (slice_get lines i ≡ Some line) × (address_of line.address ≡ address_of tile.addr) × (¬ (line.motion ≡ tile.motion)) × IsMovedOtherwise line.motion tile.motion
-IsNotFound t lines tile (CoordLimit value) = (value ≡ tile.motion.shift) × (is_refused t.order (point_in t.order tile.motion.shift) ≡ true)
+    × (line : Entry) × (slice_get lines i ≡ Some line) × (address_of line.address ≡ address_of tile.addr)
+    × (¬ (line.motion ≡ tile.motion)) × IsMovedOtherwise line.motion tile.motion
+IsNotFound t lines tile (CoordLimit value) = (value ≡ tile.motion.shift)
+    × (is_refused t.order (point_in t.order tile.motion.shift) ≡ true)
 IsNotFound t lines tile fault = ⊥

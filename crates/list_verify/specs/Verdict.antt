@@ -33,7 +33,8 @@ abbrev pub frame_listed : (t : Tiling) → FrameValue → List Entry → TheAddr
 frame_listed t f entries = at_level (full t f) (deepest_listed (length f.digits) (tiles_listed t entries))
 
 -- the text has these lines, and the address of each is of that frame
-pub record AreOfFrameGrown (t : Tiling) (f : FrameValue) (listing : List ℕ) (entries : List Entry) : Type 0 where
+pub record AreOfFrameGrown (t : Tiling) (f : FrameValue) (listing : List ℕ)
+    (entries : List Entry) : Type 0 where
   pub read : listing_in (children t) listing ≡ Ok entries
   pub of_frame : AreOfFrame (points_of t.order) t.rule (frame_listed t f entries) (tiles_listed t entries)
 
@@ -63,7 +64,8 @@ pub record HasStrayLine (t : Tiling) (f : FrameValue) (w : Window) (listing : Li
   pub stray : HasStray t f w (length f.digits) entries i
 
 -- the lines are apart, and the walk through them, in the frame as it had grown then, has this cause to end
-pub record EndsWalking (t : Tiling) (f g : FrameValue) (w : Window) (listing : List ℕ) (fault : ListFault) : Type 0 where
+pub record EndsWalking (t : Tiling) (f g : FrameValue) (w : Window) (listing : List ℕ)
+    (fault : ListFault) : Type 0 where
   pub entries : List Entry
   pub lines : AreApart t f listing entries
   pub stopped : IsStoppedBy t f g w entries fault
@@ -71,8 +73,10 @@ pub record EndsWalking (t : Tiling) (f g : FrameValue) (w : Window) (listing : L
 -- the cause of each fault; the frame was f, and is g
 abbrev pub HasCause : Tiling → FrameValue → FrameValue → Window → List ℕ → ListFault → Type 0
 HasCause t f g w listing TooLong = listing_in (children t) listing ≡ Err text.TooLong
-HasCause t f g w listing (BadLine line place) = listing_in (children t) listing ≡ Err (text.BadLine line place)
-HasCause t f g w listing (Address line fault) = listing_in (children t) listing ≡ Err (text.Address line fault)
+HasCause t f g w listing (BadLine line place) = listing_in (children t) listing
+    ≡ Err (text.BadLine line place)
+HasCause t f g w listing (Address line fault) = listing_in (children t) listing
+    ≡ Err (text.Address line fault)
 HasCause t f g w listing (BadKind line) = listing_in (children t) listing ≡ Err (text.BadKind line)
 HasCause t f g w listing (NotOfFrame line) = (i : ℕ) × (line ≡ i + 1) × HasNotOfFrame t f listing i
 HasCause t f g w listing (Double line) = (i : ℕ) × (line ≡ i + 1) × HasDouble t f listing i
@@ -107,7 +111,8 @@ pub record LacksTiles (t : Tiling) (f : FrameValue) (w : Window) (listing : List
 -- What is answered of the text, in a frame that was f and is g: it is right, or a fault has its cause. The
 -- frame is as deep as the lines, and no deeper than is enough; with a fault of the text it stays. Too many
 -- lines are a fault in any case.
-pub record IsVerdict (t : Tiling) (f g : FrameValue) (w : Window) (listing : List ℕ) (answer : Result ℕ ListFault) : Type 0 where
+pub record IsVerdict (t : Tiling) (f g : FrameValue) (w : Window) (listing : List ℕ)
+    (answer : Result ℕ ListFault) : Type 0 where
   pub frame : GrowsTo t f g
   pub depth : OnOk answer (IsListedDepth t f listing (length g.digits))
   pub not_beyond : (n : ℕ) → IsEnoughListed t f w listing n → length g.digits ≤ n

@@ -3,12 +3,12 @@ use Rattle.std.specs.Prelude.{◌≡◌, ◌⊎◌, ℕ, ◌*◌, ◌<◌, ◌�
 use Rattle.rule_model.specs.Tiling.{Tiling, tiling_of}
 use Rattle.theory_walks.specs.Frames.{FrameValue, GrowsTo}
 use Rattle.listing_text.specs.Listing.{Entry}
-use Rattle.window_cover.specs.Windows.{IsWindow, IsLeastEnough}
+use Rattle.window_cover.specs.Windows.{IsWindow, IsLeastForWindow}
 use Rattle.list_verify.specs.declared.found_lines.FoundLines.{FoundLines}
 use Rattle.list_verify.specs.declared.list_fault.ListFault.{ListFault}
 use Rattle.list_verify.specs.declared.walk.Walk.{Walk}
 use Rattle.list_verify.specs.Faults.{OrNoRoom}
-use Rattle.list_verify.specs.FoundLines.{entries_of, AreLinesIn, AreFound, AreSides, HasMore}
+use Rattle.list_verify.specs.FoundLines.{entries_of, AreLinesIn, AreFound, AreMarkedSides, HasMoreLines}
 use Rattle.list_verify.specs.LineIndex.{Indexes}
 use Rattle.list_verify.specs.Walked.{first_refused_at, Tells, IsStoppedBy, AreRightLines, IsStrayFault}
 
@@ -37,19 +37,21 @@ pub record HasNone (n : ℕ) (found : FoundLines) : Type 0 where
 -- the walk is under way: it has come to the tiles of the lines found, and beyond each edge that is marked
 pub record IsUnderWay (walk : Walk) (f : FrameValue) (found : FoundLines) : Type 0 where
   pub on_frame : IsOnFrame walk f
-  pub lines_found : AreFound (tiling_in walk) f walk.window.now walk.lines.now found.lines.items found.marks.items
-  pub sides : AreSides (tiling_in walk) f walk.window.now walk.lines.now found.lines.items found.crossed.marks.items
+  pub lines_found : AreFound (tiling_in walk) f walk.window.now walk.lines.now found.lines.items
+      found.marks.items
+  pub sides : AreMarkedSides (tiling_in walk) f walk.window.now walk.lines.now found.lines.items
+      found.crossed.marks.items
 
 -- it goes on: the frame stays, and so do the lines found, perhaps with more
-pub record GoesOn (walk : Walk) (f g : FrameValue) (old new : FoundLines) : Type 0 where
+pub record WalkGoesOn (walk : Walk) (f g : FrameValue) (old new : FoundLines) : Type 0 where
   pub stays : g ≡ f
-  pub more : HasMore old.lines.items new.lines.items
+  pub more : HasMoreLines old.lines.items new.lines.items
   pub under_way : IsUnderWay walk f new
 
 -- it stops with a fault: memory ran out, or the fault has its cause in the frame as it has grown
 pub record Stops (walk : Walk) (f g : FrameValue) (fault : ListFault) : Type 0 where
   pub grows : GrowsTo (tiling_in walk) f g
-  pub not_beyond : (n : ℕ) → IsLeastEnough (tiling_in walk) f walk.window.now n → length g.digits ≤ n
+  pub not_beyond : (n : ℕ) → IsLeastForWindow (tiling_in walk) f walk.window.now n → length g.digits ≤ n
   pub cause : OrNoRoom (IsStoppedBy (tiling_in walk) f g walk.window.now (entries_in walk)) fault
 
 -- it has come to its end, and the lines that it has found are marked
@@ -60,7 +62,7 @@ pub record HasEnded (walk : Walk) (f g : FrameValue) (found : FoundLines) : Type
   pub tells : Tells (tiling_in walk) f walk.window.now (entries_in walk) found.marks.items
 
 -- its lines are right
-pub record IsRight (walk : Walk) (f g : FrameValue) : Type 0 where
+pub record IsRightListing (walk : Walk) (f g : FrameValue) : Type 0 where
   pub stays : g ≡ f
   pub right : AreRightLines (tiling_in walk) f walk.window.now (entries_in walk)
 

@@ -5,7 +5,7 @@ ghost use Rattle.theory_windows.specs.Outlines.{MeetsBox};
 ghost use Rattle.cyclo_points.specs.Order.{points_of};
 ghost use Rattle.window_cover.specs.Windows.{box_of};
 ghost use Rattle.list_verify.specs.FoundLines.{IsCrossedOver, AreCrossedOver, edges_of_line, edge_of_line};
-ghost use Rattle.list_verify.specs.Walk.{tiling_in, IsOnFrame, HasNone, IsUnderWay, GoesOn, Stops, HasEnded, IsRight, IsNotRight};
+ghost use Rattle.list_verify.specs.Walk.{tiling_in, IsOnFrame, HasNone, IsUnderWay, WalkGoesOn, Stops, HasEnded, IsRightListing, IsNotRight};
 ghost use Rattle.list_verify.specs.Walked.{first_refused_at};
 
 use crate::crossed_edges::Side;
@@ -42,7 +42,7 @@ impl<'a> Walk<'a> {
     /// Walks to the end. Err has the first fault of the walk, or else the first line that it has not found.
     pub(crate) fn run(&self, alloc: Global, frame: &mut Frame) -> Result<(), ListFault>
         requires on_frame { IsOnFrame self.now frame.old }
-        ensures right { OnOk result (IsRight self.now frame.old frame.new) }
+        ensures right { OnOk result (IsRightListing self.now frame.old frame.new) }
         ensures fault { IfErr result (IsNotRight self.now frame.old frame.new) }
     {
         let mut found = match FoundLines::new(alloc, self.lines.len()) {
@@ -97,7 +97,7 @@ impl<'a> Walk<'a> {
     fn find_centre(&self, frame: &mut Frame, found: &mut FoundLines) -> Result<u32, ListFault>
         requires on_frame { IsOnFrame self.now frame.old }
         requires none { HasNone (length self.now.lines.now) found.old }
-        ensures goes_on { OnOk result (GoesOn self.now frame.old frame.new found.old found.new) }
+        ensures goes_on { OnOk result (WalkGoesOn self.now frame.old frame.new found.old found.new) }
         ensures centre_found { OnOk result (first_refused_at (tiling_in self.now) frame.old
             self.now.window.now ≡ None) }
         ensures fault { IfErr result (Stops self.now frame.old frame.new) }
@@ -121,7 +121,7 @@ impl<'a> Walk<'a> {
     ) -> Result<(), ListFault>
         requires under_way { IsUnderWay self.now frame.old found.old }
         requires line_found { IsAmong line found.old.lines.items }
-        ensures goes_on { OnOk result (GoesOn self.now frame.old frame.new found.old found.new) }
+        ensures goes_on { OnOk result (WalkGoesOn self.now frame.old frame.new found.old found.new) }
         ensures crossed { OnOk result (AreCrossedOver (tiling_in self.now) frame.old self.now.window.now
             self.now.lines.now found.new.lines.items line
             (edges_of_line (tiling_in self.now) self.now.lines.now line)) }
@@ -164,7 +164,7 @@ impl<'a> Walk<'a> {
         requires edge_meets { MeetsBox (points_of self.now.machine.now.order).real
             (box_of (tiling_in self.now) self.now.window.now)
             (edge_of_line (tiling_in self.now) frame.old self.now.lines.now side.line side.edge) }
-        ensures goes_on { OnOk result (GoesOn self.now frame.old frame.new found.old found.new) }
+        ensures goes_on { OnOk result (WalkGoesOn self.now frame.old frame.new found.old found.new) }
         ensures crossed { OnOk result (IsCrossedOver (tiling_in self.now) frame.old self.now.window.now
             self.now.lines.now found.new.lines.items side.line side.edge) }
         ensures fault { IfErr result (Stops self.now frame.old frame.new) }

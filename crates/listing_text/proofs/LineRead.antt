@@ -4,7 +4,7 @@ use Rattle.std.proofs.Common.{length, arith, suc, ◌≡◌, ℕ, true, false, c
 use Rattle.theory_addresses.specs.Address.{Address}
 use Rattle.cyclo_points.specs.Text.{blank}
 use Rattle.cyclo_points.specs.declared.motion.Motion.{Motion}
-use Rattle.tile_shape.specs.AddressIn.{address_in}
+use Rattle.tile_shape.specs.AddressIn.{address_of_text}
 use Rattle.tile_shape.specs.Text.{address_text, HasShortNumbers}
 use Rattle.tile_shape.specs.declared.address_fault.AddressFault.{AddressFault}
 use Rattle.tile_shape.specs.Words.{some_text, texts_between}
@@ -59,7 +59,7 @@ module _ (children : List (List ℕ)) (number : ℕ) (line : List ℕ) where
   -- the fourth word is the text of an address
   module _ (kind : ℕ) (motion : Motion) (text : List ℕ) (a : Address)
       (start : listed_motion (texts_between blank line) ≡ Ok (kind, motion, texts_between blank text))
-      (its_text : text ≡ address_text a) (short : HasShortNumbers a) (read : address_in children text ≡ Ok a) where
+      (its_text : text ≡ address_text a) (short : HasShortNumbers a) (read : address_of_text children text ≡ Ok a) where
     by_kind : entry_in children number line ≡ entry_at number (record { kind = kind; motion = motion; address = text }) (Ok a)
     by_kind =
         started kind motion (texts_between blank text) start
@@ -102,12 +102,12 @@ module _ (children : List (List ℕ)) (number : ℕ) (line : List ℕ) where
         some (x ∷ xs) h v vs = ap (entry_of_words children number) (behind_two kind motion x xs v vs)
 
     pub no_address : (fault : AddressFault) → texts_between blank text ≡ w ∷ [] → w ≡ text
-        → nat_eq (length w) 0 ≡ false → address_in children text ≡ Err fault
+        → nat_eq (length w) 0 ≡ false → address_of_text children text ≡ Err fault
         → entry_of_words children number (listed_behind kind motion (texts_between blank text)) ≡ Err (faults.Address number fault)
     no_address fault e whole h refused = ap (λ ts. entry_of_words children number
-        (listed_behind kind motion ts)) e ∙ some w h (ap (address_in children) whole ∙ refused)
+        (listed_behind kind motion ts)) e ∙ some w h (ap (address_of_text children) whole ∙ refused)
       where
-        some : (xs : List ℕ) → nat_eq (length xs) 0 ≡ false → address_in children xs ≡ Err fault
+        some : (xs : List ℕ) → nat_eq (length xs) 0 ≡ false → address_of_text children xs ≡ Err fault
             → entry_of_words children number (listed_behind kind motion (xs ∷ [])) ≡ Err
             (faults.Address number fault)
         some [] h r = absurd (cc h)

@@ -5,7 +5,7 @@ use Rattle.std.proofs.lemmas.List.{map-append}
 use Rattle.std.specs.List.{onto_first}
 use Rattle.cyclo_points.specs.Text.{newline}
 use Rattle.theory_addresses.specs.Address.{Address}
-use Rattle.tile_shape.specs.AddressIn.{address_in}
+use Rattle.tile_shape.specs.AddressIn.{address_of_text}
 use Rattle.tile_shape.specs.declared.address_fault.AddressFault.{AddressFault}
 use Rattle.listing_text.specs.declared.entry.Entry as program
 use Rattle.listing_text.specs.declared.listing_fault.ListingFault.{ListingFault}
@@ -59,7 +59,7 @@ module _ (children : List (List ℕ)) where
 
   line_fits : (number : ℕ) (r : Result Listed ℕ) → entry_of_words children number r ≡ Err TooLong → ⊥
   line_fits number (Err place) e = cc e
-  line_fits number (Ok listed) e = entry_fits number listed (address_in children listed.address) e
+  line_fits number (Ok listed) e = entry_fits number listed (address_of_text children listed.address) e
 
   first_fits : (first : Result Entry ListingFault) (others : Result (List Entry) ListingFault)
       → (first ≡ Err TooLong → ⊥) → (others ≡ Err TooLong → ⊥) → first_then first others ≡ Err TooLong → ⊥

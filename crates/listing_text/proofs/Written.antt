@@ -14,7 +14,7 @@ use Rattle.cyclo_points.specs.declared.motion.Motion.{Motion}
 use Rattle.cyclo_points.specs.declared.point.Point.{Point}
 use Rattle.cyclo_points.specs.Point.{coefficient, Within, IsWithin}
 use Rattle.tile_shape.specs.Accepted.{IsAcceptedAddress}
-use Rattle.tile_shape.specs.AddressIn.{address_in}
+use Rattle.tile_shape.specs.AddressIn.{address_of_text}
 use Rattle.tile_shape.specs.Decimal.{number_up_to}
 use Rattle.tile_shape.specs.Text.{colon, comma, slash, digit_text, digits_text, address_text, IsShort, HasShortNumbers}
 use Rattle.tile_shape.specs.Usable.{AreUsable}
@@ -156,7 +156,7 @@ unfolding listed_motion
 three_words k t s ws kind turn shift a b c = rw (a, b, c)
 
 module _ (children : List (List ℕ)) (usable : AreUsable children) (e : Entry) (can : CanBeListed children e)
-    (short : HasShortNumbers e.address) (read : address_in children (address_text e.address) ≡ Ok e.address)
+    (short : HasShortNumbers e.address) (read : address_of_text children (address_text e.address) ≡ Ok e.address)
   where
     abbrev pub K : List ℕ
     K = decimal e.address.kind
@@ -228,7 +228,7 @@ module _ (children : List (List ℕ)) (usable : AreUsable children) (e : Entry) 
 pub record AddressLaws (children : List (List ℕ)) : Type 0 where
   pub usable : AreUsable children
   pub short : (a : Address) → IsAcceptedAddress children a → HasShortNumbers a
-  pub read : (a : Address) → IsAcceptedAddress children a → address_in children (address_text a) ≡ Ok a
+  pub read : (a : Address) → IsAcceptedAddress children a → address_of_text children (address_text a) ≡ Ok a
 
 module _ (children : List (List ℕ)) (laws : AddressLaws children) where
   first_back : (e : Entry) → CanBeListed children e → (number : ℕ) → entry_in children number (entry_text e) ≡ Ok e

@@ -4,7 +4,7 @@ ghost use Rattle.cyclo_points.specs.Text.{blank};
 ghost use Rattle.cyclo_points.specs.declared.motion.Motion.{Motion};
 ghost use Rattle.std.specs.List.{All};
 ghost use Rattle.tile_shape.specs.Accepted.{IsAcceptedAddress};
-ghost use Rattle.tile_shape.specs.AddressIn.{address_in};
+ghost use Rattle.tile_shape.specs.AddressIn.{address_of_text};
 ghost use Rattle.tile_shape.specs.Views.{address_of};
 ghost use Rattle.listing_text.specs.declared.listing_fault.ListingFault.{ListingFault as Fault};
 ghost use Rattle.listing_text.specs.declared.listing_fault.ListingFault.TheVariants as faults;
@@ -119,7 +119,7 @@ fn put_line(uses: &Uses, line: &[u8], entries: &mut Vec<Entry>) -> Result<(), Li
 /// There is no fourth field, or there is a fifth; otherwise it is the fault of the address.
 fn wrong_end(line: u32, text: &[u8], fault: AddressFault) -> ListingFault
     ensures { (children : List (List ℕ)) (kind : ℕ) (motion : Motion)
-        → address_in children text.now ≡ Err fault
+        → address_of_text children text.now ≡ Err fault
         → entry_of_words children line (listed_behind kind motion (texts_between blank text.now)) ≡ Err
         result }
 {

@@ -8,7 +8,7 @@ use Rattle.theory_addresses.specs.Search.{IsAmong}
 use Rattle.theory_addresses.specs.Tables.{Tables}
 use Rattle.pair_machine.specs.Between.{Pair}
 use Rattle.pair_machine.specs.Itself.{SomeMeetsItself}
-use Rattle.pair_machine.specs.Kept.{IsKept}
+use Rattle.pair_machine.specs.Kept.{ArePairsKept}
 use Rattle.pair_machine.specs.Reading.{same_steps, between_children, first_pairs, pairs_read}
 use Rattle.pair_machine.proofs.Leaving.{between-among, same_steps-true, same_steps-same}
 
@@ -65,15 +65,15 @@ none_left t (x ∷ xs) (y ∷ ys) (suc level) none differ =
     rw (none_left t xs ys level none differ, differ_below xs ys level differ, and_false (eqb x.parent y.parent)) refl
 
 -- nothing is kept of nothing
-pub kept_nothing : (kept ps : List Pair) → kept ≡ [] → IsKept kept ps → ps ≡ []
+pub kept_nothing : (kept ps : List Pair) → kept ≡ [] → ArePairsKept kept ps → ps ≡ []
 kept_nothing kept ps none h = none_among ps (λ p i. let j : IsAmong p [] = subst (IsAmong p) none (h.all p i) in elim j [ ])
 
-pub nothing_kept : (kept ps : List Pair) → kept ≡ [] → ps ≡ [] → IsKept kept ps
+pub nothing_kept : (kept ps : List Pair) → kept ≡ [] → ps ≡ [] → ArePairsKept kept ps
 nothing_kept kept ps none empty = rw (none, empty) (record { all = λ p i. i; only = λ p i. i })
 
 pub ends : (t : Tables) (xs ys : List Step) (level : ℕ) (same : Bool) (kept : List Pair) → kept ≡ []
     → same ≡ false → same ≡ same_steps (drop level xs) (drop level ys)
-    → IsKept kept (pairs_read t (drop level xs) (drop level ys)) → IsKept kept (pairs_read t xs ys)
+    → ArePairsKept kept (pairs_read t (drop level xs) (drop level ys)) → ArePairsKept kept (pairs_read t xs ys)
 ends t xs ys level same kept none differ is h =
     nothing_kept kept (pairs_read t xs ys) none
     (none_left t xs ys level (kept_nothing kept (pairs_read t (drop level xs) (drop level ys)) none h)

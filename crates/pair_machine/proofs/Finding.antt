@@ -14,8 +14,8 @@ use Rattle.theory_addresses.proofs.Searches.{below-more}
 use Rattle.theory_addresses.proofs.TableBounds.{type_bounds, contact_bounds}
 use Rattle.theory_addresses.proofs.Mated.{IsMated, inner_mated, same_parts, across_part}
 use Rattle.pair_machine.specs.Nodes.{Node, RowPair, IsNode, IsOfChildren, first, further, both_of, row_of}
-use Rattle.pair_machine.specs.Numbers.{width_of, IsSmall}
-use Rattle.pair_machine.specs.Searching.{of_both, children_node, contact_node, child_nodes, kind_nodes, first_nodes, row_nodes, IsSeen, Covers}
+use Rattle.pair_machine.specs.Numbers.{width_of, AreNumbersSmall}
+use Rattle.pair_machine.specs.Searching.{of_both, children_node, contact_node, child_nodes, kind_nodes, first_nodes, row_nodes, IsSeen, CoversCandidates}
 use Rattle.pair_machine.proofs.Marks.{kept_in}
 use Rattle.pair_machine.proofs.Leaving.{row-among, edge_there}
 use Rattle.pair_machine.proofs.Levels.{child_of}
@@ -175,7 +175,7 @@ node_mated t n coherent (further m pair node i of) =
     (λ (l : ℕ). IsMated t n.kind pair.mine.edge l pair.theirs.edge) kinds mated' in
     rw (of.edge, of.back) mated
 
-pub node_small : (t : Tables) (n : Node) → IsCoherent t → IsNode t n → IsSmall (width_of t) n
+pub node_small : (t : Tables) (n : Node) → IsCoherent t → IsNode t n → AreNumbersSmall (width_of t) n
 node_small t n coherent node =
     let m = node_mated t n coherent node in
     let mine = type_bounds t n.kind n.edge (rw m.own_is refl) in
@@ -211,14 +211,15 @@ their_child t n r coherent i =
     (rw ((coherent.outer_part n.other r.theirs.child r.theirs.edge n.back row.across).1 row.theirs) refl)
 
 pub small_first : (t : Tables) (k a e b f ka kb : ℕ) → IsCoherent t → contact_of t k a e ≡ Some (inner b f)
-    → child_kind_of t k a ≡ Some ka → child_kind_of t k b ≡ Some kb → IsSmall (width_of t) (record { kind = ka; edge = e; other = kb; back = f })
+    → child_kind_of t k a ≡ Some ka → child_kind_of t k b ≡ Some kb
+    → AreNumbersSmall (width_of t) (record { kind = ka; edge = e; other = kb; back = f })
 small_first t k a e b f ka kb coherent met mine theirs =
     node_small t (record { kind = ka; edge = e; other = kb; back = f }) coherent
     (first k a e b f met (record { kind = mine; edge = refl; other = theirs; back = refl }))
 
 pub small_further : (t : Tables) (m : Node) (r : RowPair) (k l : ℕ) → IsCoherent t → IsNode t m → IsAmong r (row_of t m)
     → child_kind_of t m.kind r.mine.child ≡ Some k → child_kind_of t m.other r.theirs.child ≡ Some l
-    → IsSmall (width_of t) (record { kind = k; edge = r.mine.edge; other = l; back = r.theirs.edge })
+    → AreNumbersSmall (width_of t) (record { kind = k; edge = r.mine.edge; other = l; back = r.theirs.edge })
 small_further t m r k l coherent node i mine theirs =
     node_small t (record { kind = k; edge = r.mine.edge; other = l; back = r.theirs.edge }) coherent
     (further m r node i (record { kind = mine; edge = refl; other = theirs; back = refl }))
@@ -271,7 +272,7 @@ get_or-grown (x ∷ xs) rest (suc i) d h = get_or-grown xs rest i d (omega arith
 -- all rows below the next node, and its own
 pub rows_more : (t : Tables) (old new : List Node) (width : ℕ) (seen : List Bool) (next : ℕ) (node d : Node)
     → next < length old → get_or old next d ≡ node
-    → Covers width old new seen (row_nodes t node (row_of t node))
+    → CoversCandidates width old new seen (row_nodes t node (row_of t node))
     → ((m n : Node) → IsAmong m (take next old) → IsAmong n (row_nodes t m (row_of t m)) → IsAmong n old)
     → (m n : Node) → IsAmong m (take (next + 1) new) → IsAmong n (row_nodes t m (row_of t m)) → IsAmong n new
 rows_more t old new width seen next node d h at covers before m n i j =
@@ -281,11 +282,12 @@ rows_more t old new width seen next node d h at covers before m n i j =
       | inr e ↦ covers.all n (subst (λ (x : Node). IsAmong n (row_nodes t x (row_of t x))) (e ∙ at) j)
     ]
 
-pub covers_length : (old new : List Node) (width : ℕ) (seen : List Bool) (cs : List Node) → Covers width old new seen cs → length old ≤ length new
+pub covers_length : (old new : List Node) (width : ℕ) (seen : List Bool) (cs : List Node) → CoversCandidates width old new seen cs
+    → length old ≤ length new
 covers_length old new width seen cs h = omega (arith, ap length h.grown, length-append old h.rest)
 
 pub covers_nodes : (t : Tables) (old new : List Node) (width : ℕ) (seen : List Bool) (cs : List Node)
-    → Covers width old new seen cs → ((n : Node) → IsAmong n cs → IsNode t n)
+    → CoversCandidates width old new seen cs → ((n : Node) → IsAmong n cs → IsNode t n)
     → ((n : Node) → IsAmong n old → IsNode t n) → (n : Node) → IsAmong n new → IsNode t n
 covers_nodes t old new width seen cs h are before n i = elim (h.only n i) [ inl j ↦ before n j | inr j ↦ are n j ]
 

@@ -11,11 +11,11 @@ use Rattle.theory_addresses.specs.Coherent.{IsCoherent}
 use Rattle.theory_addresses.proofs.Ranges.{among-append, place-among, slice_get-append_left, slice_get-append_last, among-place}
 use Rattle.transducer_core.specs.Once.{HasNoneTwice}
 use Rattle.pair_machine.specs.Nodes.{Node, RowPair, IsNode, IsRow, row_of}
-use Rattle.pair_machine.specs.Alike.{AreFirstAlike, key_of}
+use Rattle.pair_machine.specs.Alike.{AreFirstAlike, row_key}
 use Rattle.pair_machine.specs.Indexed.{IsIndexed}
 use Rattle.pair_machine.specs.Itself.{SomeMeetsItself}
-use Rattle.pair_machine.specs.Numbers.{width_of, number_of, IsSmall}
-use Rattle.pair_machine.specs.Machine.{IsFound, IsMachine, IsKeptOnce}
+use Rattle.pair_machine.specs.Numbers.{width_of, node_number, AreNumbersSmall}
+use Rattle.pair_machine.specs.Machine.{IsRowFound, IsMachine, IsKeptOnce}
 use Rattle.pair_machine.proofs.Places.{slice_get-set_same, slice_get-set_other, among-take, among-take_more, none_twice_more}
 use Rattle.pair_machine.proofs.RowKeys.{key_within, key-row, row-key}
 use Rattle.pair_machine.proofs.Finding.{node_small}
@@ -65,16 +65,16 @@ indexed_none t firsts places are is = record {
 -- a node whose key has a place has its row there
 pub place_old : (t : Tables) (firsts : List ℕ) (places : List (Option ℕ)) (rows : List (List RowPair))
     (n : Node) (place : ℕ) → IsCoherent t → IsIndexed t firsts places rows → IsNode t n
-    → slice_get places (key_of (width_of t) firsts n) ≡ Some (Some place) → IsKeptOnce rows rows (row_of t n) place
+    → slice_get places (row_key (width_of t) firsts n) ≡ Some (Some place) → IsKeptOnce rows rows (row_of t n) place
 place_old t firsts places rows n place coherent ix node at =
-    let s = ix.stand (key_of (width_of t) firsts n) place at in
+    let s = ix.stand (row_key (width_of t) firsts n) place at in
     let same = key-row t firsts s.node n coherent ix.firsts_are s.is_node node s.key_is in
     keep_old rows (row_of t n) place ix.once (s.there ∙ ap (λ (r : List RowPair). Some r) same)
 
 -- a node whose key has none has a new row
 row_new : (t : Tables) (firsts : List ℕ) (places : List (Option ℕ)) (rows : List (List RowPair)) (n : Node)
     → IsCoherent t → IsIndexed t firsts places rows → IsNode t n
-    → slice_get places (key_of (width_of t) firsts n) ≡ Some None → IsAmong (row_of t n) rows → ⊥
+    → slice_get places (row_key (width_of t) firsts n) ≡ Some None → IsAmong (row_of t n) rows → ⊥
 row_new t firsts places rows n coherent ix node at i =
     let h = ix.have_keys (row_of t n) i in
     let same = row-key t firsts n h.node coherent ix.firsts_are node h.is_node h.row_is in
@@ -83,23 +83,24 @@ row_new t firsts places rows n coherent ix node at i =
 
 pub place_new : (t : Tables) (firsts : List ℕ) (places : List (Option ℕ)) (rows : List (List RowPair))
     (n : Node) (place : ℕ) → IsCoherent t → IsIndexed t firsts places rows → IsNode t n
-    → slice_get places (key_of (width_of t) firsts n) ≡ Some None → place ≡ length rows → IsKeptOnce rows (rows ++ row_of t n ∷ []) (row_of t n) place
+    → slice_get places (row_key (width_of t) firsts n) ≡ Some None → place ≡ length rows
+    → IsKeptOnce rows (rows ++ row_of t n ∷ []) (row_of t n) place
 place_new t firsts places rows n place coherent ix node at end =
     keep_new rows (row_of t n) place ix.once end (λ k is. row_new t firsts places rows n coherent ix node at (place-among (row_of t n) rows k is))
 
 pub indexed_new : (t : Tables) (firsts : List ℕ) (places : List (Option ℕ)) (rows : List (List RowPair))
     (n : Node) (place : ℕ) → IsCoherent t → IsIndexed t firsts places rows → IsNode t n
-    → slice_get places (key_of (width_of t) firsts n) ≡ Some None → place ≡ length rows
-    → IsIndexed t firsts (set places (key_of (width_of t) firsts n) (Some place))
+    → slice_get places (row_key (width_of t) firsts n) ≡ Some None → place ≡ length rows
+    → IsIndexed t firsts (set places (row_key (width_of t) firsts n) (Some place))
     (rows ++ row_of t n ∷ [])
 indexed_new t firsts places rows n place coherent ix node at end = record {
   firsts_are = ix.firsts_are;
-  size = length-set places (key_of (width_of t) firsts n) (Some place) ∙ ix.size;
+  size = length-set places (row_key (width_of t) firsts n) (Some place) ∙ ix.size;
   once = (place_new t firsts places rows n place coherent ix node at end).once;
-  stand = λ key p h. elim (cases_eq key (key_of (width_of t) firsts n)) [
+  stand = λ key p h. elim (cases_eq key (row_key (width_of t) firsts n)) [
     | inl same ↦
         let two : Some (Some place) ≡ Some (Some p) = sym here
-        ∙ ap (slice_get (set places (key_of (width_of t) firsts n) (Some place))) (sym same) ∙ h in
+        ∙ ap (slice_get (set places (row_key (width_of t) firsts n) (Some place))) (sym same) ∙ h in
         let one : place ≡ p = cc in
         record {
           node = n;
@@ -109,7 +110,7 @@ indexed_new t firsts places rows n place coherent ix node at end = record {
               ∙ slice_get-append_last rows (row_of t n);
         }
     | inr other ↦
-        let s = ix.stand key p (sym (slice_get-set_other places (key_of (width_of t) firsts n) key (Some place) other) ∙ h) in
+        let s = ix.stand key p (sym (slice_get-set_other places (row_key (width_of t) firsts n) key (Some place) other) ∙ h) in
         record {
           node = s.node;
           is_node = s.is_node;
@@ -126,18 +127,18 @@ indexed_new t firsts places rows n place coherent ix node at end = record {
           is_node = h.is_node;
           row_is = h.row_is;
           place = h.place;
-          placed = slice_get-set_other places (key_of (width_of t) firsts n) (key_of (width_of t) firsts h.node) (Some place)
+          placed = slice_get-set_other places (row_key (width_of t) firsts n) (row_key (width_of t) firsts h.node) (Some place)
               (λ same. let two : Some (Some h.place) ≡ Some None = sym h.placed ∙ ap (slice_get places) same ∙ at in cc) ∙ h.placed;
         }
     | inr j ↦ record { node = n; is_node = node; row_is = elim j [ inl e ↦ e | inr k ↦ elim k [ ] ]; place = place; placed = here }
   ];
 }
   where
-    inside : key_of (width_of t) firsts n < length places
-    inside = subst (λ (k : ℕ). key_of (width_of t) firsts n < k) (sym ix.size) (key_within t firsts n coherent ix.firsts_are node)
+    inside : row_key (width_of t) firsts n < length places
+    inside = subst (λ (k : ℕ). row_key (width_of t) firsts n < k) (sym ix.size) (key_within t firsts n coherent ix.firsts_are node)
 
-    here : slice_get (set places (key_of (width_of t) firsts n) (Some place)) (key_of (width_of t) firsts n) ≡ Some (Some place)
-    here = slice_get-set_same places (key_of (width_of t) firsts n) (Some place) inside
+    here : slice_get (set places (row_key (width_of t) firsts n) (Some place)) (row_key (width_of t) firsts n) ≡ Some (Some place)
+    here = slice_get-set_same places (row_key (width_of t) firsts n) (Some place) inside
 
 -- ---- the loop over the nodes
 pub record Numbered (t : Tables) (nodes : List Node) (i : ℕ) (numbers : List ℕ) (rows : List (List RowPair)) : Type 0 where
@@ -145,7 +146,7 @@ pub record Numbered (t : Tables) (nodes : List Node) (i : ℕ) (numbers : List �
   pub once : HasNoneTwice rows
   pub few : length rows ≤ i
   pub all : (row : List RowPair) → IsAmong row rows → IsRow t row
-  pub found : (m : Node) → IsAmong m (take i nodes) → IsFound (width_of t) numbers rows m (row_of t m)
+  pub found : (m : Node) → IsAmong m (take i nodes) → IsRowFound (width_of t) numbers rows m (row_of t m)
 
 pub numbered_none : (t : Tables) (nodes : List Node) (numbers : List ℕ) → length numbers ≡ width_of t * width_of t → Numbered t nodes 0 numbers []
 numbered_none t nodes numbers size = record {
@@ -161,49 +162,49 @@ numbered_none t nodes numbers size = record {
     none (n ∷ ns) m i = i
 
 found_old : (width : ℕ) (numbers : List ℕ) (rows new : List (List RowPair)) (m n : Node) (place : ℕ)
-    (row mine : List RowPair) → (number_of width m ≡ number_of width n → ⊥)
-    → IsFound width numbers rows m mine → IsKeptOnce rows new row place
-    → IsFound width (set numbers (number_of width n) place) new m mine
+    (row mine : List RowPair) → (node_number width m ≡ node_number width n → ⊥)
+    → IsRowFound width numbers rows m mine → IsKeptOnce rows new row place
+    → IsRowFound width (set numbers (node_number width n) place) new m mine
 found_old width numbers rows new m n place row mine other h k = record {
   place = h.place;
-  numbered = slice_get-set_other numbers (number_of width n) (number_of width m) place other ∙ h.numbered;
+  numbered = slice_get-set_other numbers (node_number width n) (node_number width m) place other ∙ h.numbered;
   there = ap (λ (l : List (List RowPair)). slice_get l h.place) k.grown
       ∙ slice_get-append_left rows k.rest h.place (slice_get_within rows h.place mine h.there) ∙ h.there;
 }
 
 found_new : (width : ℕ) (numbers : List ℕ) (rows new : List (List RowPair)) (n : Node) (place : ℕ)
-    (row : List RowPair) → number_of width n < length numbers → IsKeptOnce rows new row place
-    → IsFound width (set numbers (number_of width n) place) new n row
+    (row : List RowPair) → node_number width n < length numbers → IsKeptOnce rows new row place
+    → IsRowFound width (set numbers (node_number width n) place) new n row
 found_new width numbers rows new n place row inside k = record
-    { place = place; numbered = slice_get-set_same numbers (number_of width n) place inside; there = k.there }
+    { place = place; numbered = slice_get-set_same numbers (node_number width n) place inside; there = k.there }
 
 pub numbered_more : (t : Tables) (nodes : List Node) (i : ℕ) (numbers : List ℕ)
     (rows new : List (List RowPair)) (n d : Node) (place : ℕ) → IsCoherent t
     → ((m : Node) → IsAmong m nodes → IsNode t m) → i < length nodes → get_or nodes i d ≡ n → IsNode t n
     → Numbered t nodes i numbers rows → IsKeptOnce rows new (row_of t n) place
-    → Numbered t nodes (i + 1) (set numbers (number_of (width_of t) n) place) new
+    → Numbered t nodes (i + 1) (set numbers (node_number (width_of t) n) place) new
 numbered_more t nodes i numbers rows new n d place coherent are inside at node h k = record {
-  size = length-set numbers (number_of (width_of t) n) place ∙ h.size;
+  size = length-set numbers (node_number (width_of t) n) place ∙ h.size;
   once = k.once;
   few = omega (arith, ap length k.grown, length-append rows k.rest, k.at_most_one, h.few);
   all = λ row j. elim (k.only row j) [ inl a ↦ h.all row a | inr e ↦ (n, node, e) ];
   found = λ m j. elim (among-take_more nodes i d m inside j) [
-    | inl a ↦ elim (cases_eq (number_of (width_of t) m) (number_of (width_of t) n)) [
+    | inl a ↦ elim (cases_eq (node_number (width_of t) m) (node_number (width_of t) n)) [
       | inl same ↦ let one = number_one (width_of t) m n (node_small t m coherent (are m (among-take m nodes i a))) small same in
-          subst (λ (x : Node). IsFound (width_of t) (set numbers (number_of (width_of t) n) place) new x
+          subst (λ (x : Node). IsRowFound (width_of t) (set numbers (node_number (width_of t) n) place) new x
           (row_of t x)) (sym one) (found_new (width_of t) numbers rows new n place (row_of t n) within k)
       | inr other ↦ found_old (width_of t) numbers rows new m n place (row_of t n) (row_of t m) other (h.found m a) k
     ]
-    | inr e ↦ subst (λ (x : Node). IsFound (width_of t) (set numbers (number_of (width_of t) n) place) new x
+    | inr e ↦ subst (λ (x : Node). IsRowFound (width_of t) (set numbers (node_number (width_of t) n) place) new x
         (row_of t x)) (sym (e ∙ at)) (found_new (width_of t) numbers rows new n place (row_of t n) within k)
   ];
 }
   where
-    small : IsSmall (width_of t) n
+    small : AreNumbersSmall (width_of t) n
     small = node_small t n coherent node
 
-    within : number_of (width_of t) n < length numbers
-    within = subst (λ (k : ℕ). number_of (width_of t) n < k) (sym h.size) (number_within (width_of t) n small)
+    within : node_number (width_of t) n < length numbers
+    within = subst (λ (k : ℕ). node_number (width_of t) n < k) (sym h.size) (number_within (width_of t) n small)
 
 pub machine_of : (t : Tables) (itself : Bool) (nodes : List Node) (i : ℕ) (numbers : List ℕ)
     (rows : List (List RowPair)) → IsCoherent t → ((itself ≡ true) ↔ SomeMeetsItself t) → HasNoneTwice nodes
@@ -225,7 +226,7 @@ machine_of t itself nodes i numbers rows coherent itself_is once all few end h =
   found = every;
 }
   where
-    every : (n : Node) → IsNode t n → IsFound (width_of t) numbers rows n (row_of t n)
+    every : (n : Node) → IsNode t n → IsRowFound (width_of t) numbers rows n (row_of t n)
     every n node = h.found n (subst (IsAmong n) (sym (ap (λ (k : ℕ). take k nodes) end ∙ take-length nodes)) ((all n).1 node))
 
 -- the number of a row fits

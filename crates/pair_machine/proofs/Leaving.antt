@@ -19,7 +19,7 @@ use Rattle.theory_addresses.specs.Trace.{Cut}
 use Rattle.theory_addresses.proofs.Touching.{Touches-of, Meets-of}
 use Rattle.pair_machine.specs.Between.{Pair}
 use Rattle.pair_machine.specs.Nodes.{Node, RowPair, both_of, row_of}
-use Rattle.pair_machine.specs.Reading.{same_steps, only_if, met_by, between_children, left_of, node_of, first_pairs, pairs_read}
+use Rattle.pair_machine.specs.Reading.{same_steps, only_if, edge_met_by, between_children, left_of, node_of, first_pairs, pairs_read}
 
 -- ---- tests
 pub same_steps-true : (xs ys : List Step) → same_steps xs ys ≡ true → xs ≡ ys
@@ -46,7 +46,8 @@ among-only_if true x h = inl refl
 among-only_if false x h = absurd cc
 
 -- ---- the inner contacts between two children
-met_by-among : (e b : ℕ) (o : Option Contact) (g f : ℕ) → IsAmong (record { mine = g; theirs = f }) (met_by e b o) → (g ≡ e) × (o ≡ Some (inner b f))
+met_by-among : (e b : ℕ) (o : Option Contact) (g f : ℕ) → IsAmong (record { mine = g; theirs = f }) (edge_met_by e b o)
+    → (g ≡ e) × (o ≡ Some (inner b f))
 met_by-among e b None g f i = elim i [ ]
 met_by-among e b (Some (inner c h)) g f i =
     let r = only_if-among (eqb c b) (record { mine = e; theirs = h }) (record { mine = g; theirs = f }) i in
@@ -60,7 +61,8 @@ pub between-among : (t : Tables) (k a b e f : ℕ)
     → contact_of t k a e ≡ Some (inner b f)
 unfolding between_children
 between-among t k a b e f i =
-    let r = among-flat_map (λ g. met_by g b (contact_of t k a g)) (record { mine = e; theirs = f }) (below (λ g. g) (length (contacts_of t k a))) i in
+    let r = among-flat_map (λ g. edge_met_by g b (contact_of t k a g)) (record { mine = e; theirs = f }) (below (λ g. g) (length (contacts_of t k a)))
+    i in
     let m = met_by-among r.piece b (contact_of t k a r.piece) e f r.inside in
     rw m.0 m.1
 
@@ -69,9 +71,9 @@ pub among-between : (t : Tables) (k a b e f : ℕ) → contact_of t k a e ≡ So
 unfolding between_children
 among-between t k a b e f met =
     let bounds = contact_bounds t k a e (rw met refl) in
-    let here : IsAmong (record { mine = e; theirs = f }) (met_by e b (contact_of t k a e)) = rw met
+    let here : IsAmong (record { mine = e; theirs = f }) (edge_met_by e b (contact_of t k a e)) = rw met
     (among-only_if (eqb b b) (record { mine = e; theirs = f }) (eq-eqb b b refl)) in
-    IsAmong-flat_map (λ g. met_by g b (contact_of t k a g)) e (record { mine = e; theirs = f })
+    IsAmong-flat_map (λ g. edge_met_by g b (contact_of t k a g)) e (record { mine = e; theirs = f })
     (below (λ g. g) (length (contacts_of t k a)))
     (IsAmong-below (λ g. g) (length (contacts_of t k a)) e bounds.2) here
 

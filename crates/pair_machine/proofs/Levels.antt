@@ -19,9 +19,9 @@ use Rattle.tile_shape.specs.Views.{step_of}
 use Rattle.theory_addresses.proofs.Chains.{IsChain, IsChain-drop, level_kind}
 use Rattle.theory_addresses.proofs.FineTouch.{Meets-unique}
 use Rattle.pair_machine.specs.Between.{Pair, IsInOrder, IsBetween}
-use Rattle.pair_machine.specs.Kept.{IsKept, IsFunctional}
+use Rattle.pair_machine.specs.Kept.{ArePairsKept, IsFunctional}
 use Rattle.pair_machine.specs.Nodes.{Node, RowPair, IsNode, first, further, row_of}
-use Rattle.pair_machine.specs.Reading.{same_steps, met_by, between_children, left_of, node_of, first_pairs, step_pairs, pairs_read}
+use Rattle.pair_machine.specs.Reading.{same_steps, edge_met_by, between_children, left_of, node_of, first_pairs, step_pairs, pairs_read}
 use Rattle.pair_machine.proofs.Leaving.{row-among, left-among, between-among, read_meets, read_touches, first-among, same_steps-true, same_steps-same}
 use Rattle.pair_machine.proofs.Keeping.{two, between_upto, between_more, functional_less, kept_same}
 use Rattle.pair_machine.proofs.Places.{among-take}
@@ -50,9 +50,10 @@ between_upto-among : (t : Tables) (k a b n e f : ℕ) → n ≤ length (contacts
     → IsAmong (two e f) (between_upto t k a b n) → contact_of t k a e ≡ Some (inner b f)
 unfolding between_upto between_children
 between_upto-among t k a b n e f le i =
-    let r = among-flat_map (λ g. met_by g b (contact_of t k a g)) (two e f) (below (λ g. g) n) i in
+    let r = among-flat_map (λ g. edge_met_by g b (contact_of t k a g)) (two e f) (below (λ g. g) n) i in
     let range = among-below (λ g. g) n r.piece r.among in
-    between-among t k a b e f (IsAmong-flat_map (λ g. met_by g b (contact_of t k a g)) r.piece (two e f) (below (λ g. g) (length (contacts_of t k a)))
+    between-among t k a b e f
+    (IsAmong-flat_map (λ g. edge_met_by g b (contact_of t k a g)) r.piece (two e f) (below (λ g. g) (length (contacts_of t k a)))
     (subst (λ (m : ℕ). IsAmong m (below (λ g. g) (length (contacts_of t k a)))) (sym range.is)
     (IsAmong-below (λ g. g) (length (contacts_of t k a)) range.number
     (omega (arith, range.in_range, le)))) r.inside)
@@ -63,13 +64,14 @@ between_functional t k a b n le = λ e f g i j.
     let y = between_upto-among t k a b n e g le j in
     cc
 
-pub meet_more : (t : Tables) (k a b n : ℕ) (c : Contact) (now new : List Pair) → contact_of t k a n ≡ Some c → IsKept now (between_upto t k a b n)
-    → ((ps : List Pair) → IsKept now ps → IsFunctional (ps ++ met_by n b (Some c)) → IsKept new (ps ++ met_by n b (Some c)))
-    → IsKept new (between_upto t k a b (n + 1))
+pub meet_more : (t : Tables) (k a b n : ℕ) (c : Contact) (now new : List Pair) → contact_of t k a n ≡ Some c
+    → ArePairsKept now (between_upto t k a b n)
+    → ((ps : List Pair) → ArePairsKept now ps → IsFunctional (ps ++ edge_met_by n b (Some c)) → ArePairsKept new (ps ++ edge_met_by n b (Some c)))
+    → ArePairsKept new (between_upto t k a b (n + 1))
 meet_more t k a b n c now new is kept more =
     let bounds = contact_bounds t k a n (rw is refl) in
     let e = between_more t k a b n c is in
-    subst (IsKept new) (sym e) (more (between_upto t k a b n) kept
+    subst (ArePairsKept new) (sym e) (more (between_upto t k a b n) kept
     (subst IsFunctional e (between_functional t k a b (n + 1) (omega (arith, bounds.2)))))
 
 -- ---- the rows of the pairs above
@@ -89,11 +91,11 @@ step_less t x y fresh ps qs sub p i = elim (among-append p (first_pairs t x y fr
     ]
 
 pub read_more : (t : Tables) (x y : Step) (fresh : Bool) (above now new : List Pair) (n : ℕ) (d p : Pair) → n < length above → get_or above n d ≡ p
-    → IsFunctional (step_pairs t x y fresh above) → IsKept now (step_pairs t x y fresh (take n above))
-    → ((ps : List Pair) → IsKept now ps → IsFunctional
+    → IsFunctional (step_pairs t x y fresh above) → ArePairsKept now (step_pairs t x y fresh (take n above))
+    → ((ps : List Pair) → ArePairsKept now ps → IsFunctional
     (ps ++ left_of (row_of t (node_of x y p)) x.child y.child)
-    → IsKept new (ps ++ left_of (row_of t (node_of x y p)) x.child y.child))
-    → IsKept new (step_pairs t x y fresh (take (n + 1) above))
+    → ArePairsKept new (ps ++ left_of (row_of t (node_of x y p)) x.child y.child))
+    → ArePairsKept new (step_pairs t x y fresh (take (n + 1) above))
 read_more t x y fresh above now new n d p inside at functional kept more =
     let rest : rest_of t x y (take (n + 1) above) ≡ rest_of t x y (take n above) ++ left_of (row_of t (node_of x y p)) x.child y.child =
     rw (
@@ -110,7 +112,7 @@ read_more t x y fresh above now new n d p inside at functional kept more =
     let less : IsFunctional (step_pairs t x y fresh (take (n + 1) above)) =
     functional_less (step_pairs t x y fresh (take (n + 1) above)) (step_pairs t x y fresh above)
     (step_less t x y fresh (take (n + 1) above) above (λ q i. among-take q above (n + 1) i)) functional in
-    subst (IsKept new) (sym e) (more (step_pairs t x y fresh (take n above)) kept (subst IsFunctional e less))
+    subst (ArePairsKept new) (sym e) (more (step_pairs t x y fresh (take n above)) kept (subst IsFunctional e less))
 
 -- ---- the pairs that are read are those of nodes
 first_node : (t : Tables) (k l e f : ℕ) (x y : Step) → x.parent ≡ y.parent → contact_of t x.parent x.child e ≡ Some (inner y.child f)
@@ -148,11 +150,11 @@ read_functional t xs ys k l coherent fits fits' = λ e f g i j.
 pub record Readable (t : Tables) (x y : Step) (xs ys : List Step) (fresh : Bool) (above : List Pair) : Type 0 where
   pub nodes : (p : Pair) → IsAmong p above → IsNode t (node_of x y p)
   pub functional : IsFunctional (step_pairs t x y fresh above)
-  pub more : (new : List Pair) → IsKept new (step_pairs t x y fresh above) → IsKept new (pairs_read t (x ∷ xs) (y ∷ ys))
+  pub more : (new : List Pair) → ArePairsKept new (step_pairs t x y fresh above) → ArePairsKept new (pairs_read t (x ∷ xs) (y ∷ ys))
 
 pub readable : (t : Tables) (k l : ℕ) (x y : Step) (xs ys : List Step) (fresh : Bool) (above : List Pair)
     → IsCoherent t → IsChain t k (x ∷ xs) → IsChain t l (y ∷ ys)
-    → fresh ≡ (eqb x.parent y.parent && same_steps xs ys) → IsKept above (pairs_read t xs ys) → Readable t x y xs ys fresh above
+    → fresh ≡ (eqb x.parent y.parent && same_steps xs ys) → ArePairsKept above (pairs_read t xs ys) → Readable t x y xs ys fresh above
 readable t k l x y xs ys fresh above coherent fits fits' same kept =
     let to : (p : Pair) → IsAmong p (step_pairs t x y fresh above) → IsAmong p (pairs_read t (x ∷ xs) (y ∷ ys)) = λ p i.
     subst (λ (b : Bool). IsAmong p (step_pairs t x y b (pairs_read t xs ys))) same (step_less t x y fresh above (pairs_read t xs ys) kept.only p i) in
@@ -168,10 +170,10 @@ readable t k l x y xs ys fresh above coherent fits fits' same kept =
 
 -- ---- where a level begins
 pub start_fresh : (t : Tables) (x y : Step) (fresh : Bool) (now : List Pair) → fresh ≡ true
-    → IsKept now (between_children t x.parent x.child y.child) → IsKept now (step_pairs t x y fresh [])
+    → ArePairsKept now (between_children t x.parent x.child y.child) → ArePairsKept now (step_pairs t x y fresh [])
 start_fresh t x y fresh now is kept = rw (is, append-nil (between_children t x.parent x.child y.child)) kept
 
-pub start_plain : (t : Tables) (x y : Step) (fresh : Bool) (now : List Pair) → fresh ≡ false → now ≡ [] → IsKept now (step_pairs t x y fresh [])
+pub start_plain : (t : Tables) (x y : Step) (fresh : Bool) (now : List Pair) → fresh ≡ false → now ≡ [] → ArePairsKept now (step_pairs t x y fresh [])
 start_plain t x y fresh now is none = rw (is, none) (record { all = λ p i. i; only = λ p i. i })
 
 -- ---- the digits at a level
@@ -197,7 +199,7 @@ pub at_level : (t : Tables) (k l : ℕ) (xs ys us vs : List program.Step) (level
     → IsChain t k (map step_of xs) → IsChain t l (map step_of ys) → length xs ≡ length ys → us ≡ xs → vs ≡ ys → 0 < level → level ≤ length xs
     → same ≡ same_steps (drop level (map step_of xs)) (drop level (map step_of ys))
     → fresh ≡ (eqb (digit us level).parent (digit vs level).parent && same)
-    → IsKept table (pairs_read t (drop level (map step_of xs)) (drop level (map step_of ys)))
+    → ArePairsKept table (pairs_read t (drop level (map step_of xs)) (drop level (map step_of ys)))
     → AtLevel t xs ys us vs level fresh table
 at_level t k l xs ys us vs level same fresh table coherent fits fits' depths own own' some within same_is fresh_is kept =
     let sx = digits_at xs us level (record { child = 0; parent = 0 }) own some within in
@@ -221,8 +223,8 @@ at_level t k l xs ys us vs level same fresh table coherent fits fits' depths own
 
 pub kept_below : (t : Tables) (xs ys us vs : List program.Step) (level : ℕ) (fresh : Bool)
     (table new : List Pair) → AtLevel t xs ys us vs level fresh table
-    → IsKept new (step_pairs t (digit us level) (digit vs level) fresh table)
-    → IsKept new (pairs_read t (drop (level - 1) (map step_of xs)) (drop (level - 1) (map step_of ys)))
+    → ArePairsKept new (step_pairs t (digit us level) (digit vs level) fresh table)
+    → ArePairsKept new (pairs_read t (drop (level - 1) (map step_of xs)) (drop (level - 1) (map step_of ys)))
 kept_below t xs ys us vs level fresh table new h kept = rw (h.split_x, h.split_y) (h.readable_here.more new kept)
 
 pub same_below : (t : Tables) (xs ys us vs : List program.Step) (level : ℕ) (same fresh next : Bool)
@@ -269,7 +271,7 @@ same_address a b r is = (
 
 -- ---- the list at the end
 pub between_of : (t : Tables) (a b : Address) (kept : List Pair) → IsCoherent t → Fits (child_kinds t) a
-    → Fits (child_kinds t) b → IsInOrder kept → IsKept kept (pairs_read t a.digits b.digits)
+    → Fits (child_kinds t) b → IsInOrder kept → ArePairsKept kept (pairs_read t a.digits b.digits)
     → IsBetween t a b kept
 between_of t a b kept coherent fits fits' order h = record {
   in_order = order;

@@ -9,8 +9,8 @@ use Rattle.theory_addresses.specs.Search.{IsAmong}
 use Rattle.theory_addresses.proofs.Lists.{IsAmong-append_left, IsAmong-append_right}
 use Rattle.theory_addresses.proofs.Ranges.{among-append}
 use Rattle.pair_machine.specs.Nodes.{Node}
-use Rattle.pair_machine.specs.Numbers.{mine_of, theirs_of, number_of, IsSmall}
-use Rattle.pair_machine.specs.Searching.{unseen, IsSeen, Covers}
+use Rattle.pair_machine.specs.Numbers.{mine_of, theirs_of, node_number, AreNumbersSmall}
+use Rattle.pair_machine.specs.Searching.{unseen, IsSeen, CoversCandidates}
 use Rattle.pair_machine.proofs.Places.{slice_get-set_same, slice_get-set_other, none_twice_more}
 
 -- ---- numbers tell nodes
@@ -26,14 +26,14 @@ one_each width a b c d hb hd h = (
 node-eq : (m n : Node) → m.kind ≡ n.kind → m.edge ≡ n.edge → m.other ≡ n.other → m.back ≡ n.back → m ≡ n
 node-eq m n k e o b = λ i. record { kind = k i; edge = e i; other = o i; back = b i }
 
-pub number_one : (width : ℕ) (m n : Node) → IsSmall width m → IsSmall width n → number_of width m ≡ number_of width n → m ≡ n
+pub number_one : (width : ℕ) (m n : Node) → AreNumbersSmall width m → AreNumbersSmall width n → node_number width m ≡ node_number width n → m ≡ n
 number_one width m n h k same =
     let both = one_each width (mine_of m) (theirs_of m) (mine_of n) (theirs_of n) h.theirs k.theirs same in
     let mine = one_left m.kind n.kind m.edge n.edge h.edge k.edge both.0 in
     let theirs = one_left m.other n.other m.back n.back h.back k.back both.1 in
     node-eq m n mine.0 mine.1 theirs.0 theirs.1
 
-pub number_within : (width : ℕ) (n : Node) → IsSmall width n → number_of width n < width * width
+pub number_within : (width : ℕ) (n : Node) → AreNumbersSmall width n → node_number width n < width * width
 number_within width n h = mul-add-lt (mine_of n) width (theirs_of n) width h.mine h.theirs
 
 -- ---- marks
@@ -70,9 +70,9 @@ none_seen_at width seen is = rw is (none_seen width (replicate (width * width) f
 
 -- a node that is there already
 pub add_old : (width : ℕ) (list : List Node) (seen : List Bool) (n : Node) → IsSeen width list seen
-    → IsSmall width n → slice_get seen (number_of width n) ≡ Some true → Covers width list list seen (n ∷ [])
+    → AreNumbersSmall width n → slice_get seen (node_number width n) ≡ Some true → CoversCandidates width list list seen (n ∷ [])
 add_old width list seen n h small marked =
-    let m = h.only (number_of width n) marked in
+    let m = h.only (node_number width n) marked in
     let same = number_one width m.0 n (h.small m.0 m.1) small m.2 in
     record {
       seen_now = h;
@@ -84,38 +84,38 @@ add_old width list seen n h small marked =
 
 -- a new node
 pub add_new : (width : ℕ) (list : List Node) (seen : List Bool) (n : Node) → IsSeen width list seen
-    → IsSmall width n → slice_get seen (number_of width n) ≡ Some false
-    → Covers width list (list ++ n ∷ []) (set seen (number_of width n) true) (n ∷ [])
+    → AreNumbersSmall width n → slice_get seen (node_number width n) ≡ Some false
+    → CoversCandidates width list (list ++ n ∷ []) (set seen (node_number width n) true) (n ∷ [])
 add_new width list seen n h small fresh = record {
   seen_now = record {
     size = size ∙ h.size;
     small = λ m i. elim (among-append m list (n ∷ []) i) [
       | inl j ↦ h.small m j
       | inr j ↦ elim j [
-        | inl e ↦ subst (IsSmall width) (sym e) small
+        | inl e ↦ subst (AreNumbersSmall width) (sym e) small
         | inr k ↦ elim k
             [ ]
       ]
     ];
-    marked = λ m i. elim (cases_eq (number_of width m) (number_of width n)) [
-      | inl same ↦ ap (slice_get (set seen (number_of width n) true)) same ∙ slice_get-set_same seen (number_of width n) true inside
-      | inr other ↦ slice_get-set_other seen (number_of width n) (number_of width m) true other
+    marked = λ m i. elim (cases_eq (node_number width m) (node_number width n)) [
+      | inl same ↦ ap (slice_get (set seen (node_number width n) true)) same ∙ slice_get-set_same seen (node_number width n) true inside
+      | inr other ↦ slice_get-set_other seen (node_number width n) (node_number width m) true other
           ∙ (elim (among-append m list (n ∷ []) i) [
             | inl j ↦ h.marked m j
             | inr j ↦ elim j [
-              | inl e ↦ elim (other (ap (number_of width) e)) [ ]
+              | inl e ↦ elim (other (ap (node_number width) e)) [ ]
               | inr k
                   ↦ elim k [ ]
             ]
           ])
     ];
-    only = λ i is. elim (cases_eq i (number_of width n)) [
+    only = λ i is. elim (cases_eq i (node_number width n)) [
       | inl same ↦ (n, IsAmong-append_right n list (n ∷ []) (inl refl), sym same)
-      | inr other ↦ let m = h.only i (sym (slice_get-set_other seen (number_of width n) i true other)
+      | inr other ↦ let m = h.only i (sym (slice_get-set_other seen (node_number width n) i true other)
           ∙ is) in (m.0, IsAmong-append_left m.0 list (n ∷ []) m.1, m.2)
     ];
     distinct = none_twice_more list n h.distinct (λ i. not_both (h.marked n i));
-    count = omega (arith, length-append list (n ∷ []), size, h.count, unseen_set seen (number_of width n) fresh);
+    count = omega (arith, length-append list (n ∷ []), size, h.count, unseen_set seen (node_number width n) fresh);
   };
   rest = n ∷ [];
   grown = refl;
@@ -123,22 +123,22 @@ add_new width list seen n h small fresh = record {
   only = λ m i. among-append m list (n ∷ []) i;
 }
   where
-    inside : number_of width n < length seen
-    inside = subst (λ (k : ℕ). number_of width n < k) (sym h.size) (number_within width n small)
+    inside : node_number width n < length seen
+    inside = subst (λ (k : ℕ). node_number width n < k) (sym h.size) (number_within width n small)
 
-    size : length (set seen (number_of width n) true) ≡ length seen
-    size = length-set seen (number_of width n) true
+    size : length (set seen (node_number width n) true) ≡ length seen
+    size = length-set seen (node_number width n) true
 
-    not_both : slice_get seen (number_of width n) ≡ Some true → ⊥
+    not_both : slice_get seen (node_number width n) ≡ Some true → ⊥
     not_both marked = let two : Some true ≡ Some false = sym marked ∙ fresh in cc
 
 -- the mark of a node is there
 pub mark_within : (width : ℕ) (list : List Node) (seen : List Bool) (n : Node) → IsSeen width list seen
-    → IsSmall width n → number_of width n < length seen
-mark_within width list seen n h small = subst (λ (k : ℕ). number_of width n < k) (sym h.size) (number_within width n small)
+    → AreNumbersSmall width n → node_number width n < length seen
+mark_within width list seen n h small = subst (λ (k : ℕ). node_number width n < k) (sym h.size) (number_within width n small)
 
 -- ---- one after the other
-pub covers_none : (width : ℕ) (list : List Node) (seen : List Bool) → IsSeen width list seen → Covers width list list seen []
+pub covers_none : (width : ℕ) (list : List Node) (seen : List Bool) → IsSeen width list seen → CoversCandidates width list list seen []
 covers_none width list seen h = record {
   seen_now = h;
   rest = [];
@@ -148,11 +148,11 @@ covers_none width list seen h = record {
 }
 
 pub kept_in : {old new : List Node} {width : ℕ} {seen : List Bool} {cs : List Node} (n : Node)
-    → Covers width old new seen cs → IsAmong n old → IsAmong n new
+    → CoversCandidates width old new seen cs → IsAmong n old → IsAmong n new
 kept_in {old} n h i = subst (IsAmong n) (sym h.grown) (IsAmong-append_left n old h.rest i)
 
 pub covers_more : (old mid new : List Node) (width : ℕ) (seen seen' : List Bool) (xs ys : List Node)
-    → Covers width old mid seen xs → Covers width mid new seen' ys → Covers width old new seen' (xs ++ ys)
+    → CoversCandidates width old mid seen xs → CoversCandidates width mid new seen' ys → CoversCandidates width old new seen' (xs ++ ys)
 covers_more old mid new width seen seen' xs ys h k = record {
   seen_now = k.seen_now;
   rest = h.rest ++ k.rest;
@@ -165,5 +165,5 @@ covers_more old mid new width seen seen' xs ys h k = record {
 }
 
 pub covers_as : (old new : List Node) (width : ℕ) (seen : List Bool) (xs ys : List Node) → xs ≡ ys
-    → Covers width old new seen xs → Covers width old new seen ys
-covers_as old new width seen xs ys same h = subst (Covers width old new seen) same h
+    → CoversCandidates width old new seen xs → CoversCandidates width old new seen ys
+covers_as old new width seen xs ys same h = subst (CoversCandidates width old new seen) same h

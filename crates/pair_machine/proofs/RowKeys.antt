@@ -17,7 +17,7 @@ use Rattle.theory_addresses.proofs.TableBounds.{some_within}
 use Rattle.edge_tables.specs.declared.child_edge.ChildEdge as program
 use Rattle.edge_tables.specs.declared.kind_rows.KindRows.{KindRows}
 use Rattle.edge_tables.specs.Views.{as_child_edge, as_kind_tables}
-use Rattle.pair_machine.specs.Alike.{IsFirstAlike, AreFirstAlike, key_of}
+use Rattle.pair_machine.specs.Alike.{IsFirstAlike, AreFirstAlike, row_key}
 use Rattle.pair_machine.specs.Nodes.{Node, RowPair, IsNode, both_of, row_of}
 use Rattle.pair_machine.specs.Numbers.{width_of, mine_of, theirs_of}
 use Rattle.pair_machine.proofs.Finding.{node_mated, node_small}
@@ -200,13 +200,13 @@ firsts_of t firsts n coherent are node =
 
 -- ---- keys tell rows
 pub key_within : (t : Tables) (firsts : List ℕ) (n : Node) → IsCoherent t → AreFirstAlike t firsts
-    → IsNode t n → key_of (width_of t) firsts n < width_of t * width_of t
+    → IsNode t n → row_key (width_of t) firsts n < width_of t * width_of t
 key_within t firsts n coherent are node =
     let f = firsts_of t firsts n coherent are node in
     mul-add-lt (get_or firsts (mine_of n) 0) (width_of t) (get_or firsts (theirs_of n) 0) (width_of t) f.mine_within f.theirs_within
 
 pub key-row : (t : Tables) (firsts : List ℕ) (m n : Node) → IsCoherent t → AreFirstAlike t firsts → IsNode t m
-    → IsNode t n → key_of (width_of t) firsts m ≡ key_of (width_of t) firsts n → row_of t m ≡ row_of t n
+    → IsNode t n → row_key (width_of t) firsts m ≡ row_key (width_of t) firsts n → row_of t m ≡ row_of t n
 key-row t firsts m n coherent are node node' same =
     let f = firsts_of t firsts m coherent are node in
     let g = firsts_of t firsts n coherent are node' in
@@ -220,7 +220,7 @@ key-row t firsts m n coherent are node node' same =
     })
 
 pub row-key : (t : Tables) (firsts : List ℕ) (m n : Node) → IsCoherent t → AreFirstAlike t firsts → IsNode t m
-    → IsNode t n → row_of t m ≡ row_of t n → key_of (width_of t) firsts m ≡ key_of (width_of t) firsts n
+    → IsNode t n → row_of t m ≡ row_of t n → row_key (width_of t) firsts m ≡ row_key (width_of t) firsts n
 row-key t firsts m n coherent are node node' same =
     let f = firsts_of t firsts m coherent are node in
     let g = firsts_of t firsts n coherent are node' in

@@ -8,7 +8,8 @@ use Rattle.pair_machine.specs.Numbers.{width_of, mine_of, theirs_of}
 pub record IsFirstAlike (t : Tables) (number first : ℕ) : Type 0 where
   pub within : first ≤ number
   pub same : parts_of t (first / 12) (first % 12) ≡ parts_of t (number / 12) (number % 12)
-  pub none_before : (m : ℕ) → m < first → parts_of t (m / 12) (m % 12) ≡ parts_of t (number / 12) (number % 12) → ⊥
+  pub none_before : (m : ℕ) → m < first
+      → parts_of t (m / 12) (m % 12) ≡ parts_of t (number / 12) (number % 12) → ⊥
 
 -- the list has it for each number
 pub record AreFirstAlike (t : Tables) (firsts : List ℕ) : Type 0 where
@@ -16,5 +17,5 @@ pub record AreFirstAlike (t : Tables) (firsts : List ℕ) : Type 0 where
   pub each : (number first : ℕ) → slice_get firsts number ≡ Some first → IsFirstAlike t number first
 
 -- the key of a node: the number of the node of the first edges alike
-abbrev pub key_of : ℕ → List ℕ → Node → ℕ
-key_of width firsts n = get_or firsts (mine_of n) 0 * width + get_or firsts (theirs_of n) 0
+abbrev pub row_key : ℕ → List ℕ → Node → ℕ
+row_key width firsts n = get_or firsts (mine_of n) 0 * width + get_or firsts (theirs_of n) 0

@@ -4,13 +4,14 @@ use Rattle.theory_addresses.specs.Search.{IsAmong}
 use Rattle.pair_machine.specs.Between.{Pair, IsInOrder}
 
 -- the kept list has the members of the pairs, and no others
-pub record IsKept (kept ps : List Pair) : Type 0 where
+pub record ArePairsKept (kept ps : List Pair) : Type 0 where
   pub all : (p : Pair) → IsAmong p ps → IsAmong p kept
   pub only : (p : Pair) → IsAmong p kept → IsAmong p ps
 
 -- no edge has two partners
 abbrev pub IsFunctional : List Pair → Type 0
-IsFunctional ps = (e f g : ℕ) → IsAmong (record { mine = e; theirs = f }) ps → IsAmong (record { mine = e; theirs = g }) ps → f ≡ g
+IsFunctional ps = (e f g : ℕ) → IsAmong (record { mine = e; theirs = f }) ps
+    → IsAmong (record { mine = e; theirs = g }) ps → f ≡ g
 
 -- a list of partners: in order, of edges below 12
 pub record ArePartners (ps : List Pair) : Type 0 where

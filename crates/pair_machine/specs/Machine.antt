@@ -6,17 +6,19 @@ use Rattle.theory_addresses.specs.Tables.{Tables}
 use Rattle.transducer_core.specs.Once.{HasNoneTwice}
 use Rattle.pair_machine.specs.Itself.{SomeMeetsItself}
 use Rattle.pair_machine.specs.Nodes.{Node, RowPair, IsNode, IsRow, row_of}
-use Rattle.pair_machine.specs.Numbers.{width_of, number_of}
+use Rattle.pair_machine.specs.Numbers.{width_of, node_number}
 
 -- the row of a node is found by its number
-pub record IsFound (width : ℕ) (numbers : List ℕ) (rows : List (List RowPair)) (n : Node) (row : List RowPair) : Type 0 where
+pub record IsRowFound (width : ℕ) (numbers : List ℕ) (rows : List (List RowPair)) (n : Node)
+    (row : List RowPair) : Type 0 where
   pub place : ℕ
-  pub numbered : slice_get numbers (number_of width n) ≡ Some place
+  pub numbered : slice_get numbers (node_number width n) ≡ Some place
   pub there : slice_get rows place ≡ Some row
 
 -- whether some child meets itself; all nodes and all rows, each exactly once, and each row by the number of
 -- its node
-pub record IsMachine (t : Tables) (itself : Bool) (nodes : List Node) (numbers : List ℕ) (rows : List (List RowPair)) : Type 0 where
+pub record IsMachine (t : Tables) (itself : Bool) (nodes : List Node) (numbers : List ℕ)
+    (rows : List (List RowPair)) : Type 0 where
   pub coherent : IsCoherent t
   pub itself_is : (itself ≡ true) ↔ SomeMeetsItself t
   pub nodes_once : HasNoneTwice nodes
@@ -25,7 +27,7 @@ pub record IsMachine (t : Tables) (itself : Bool) (nodes : List Node) (numbers :
   pub rows_once : HasNoneTwice rows
   pub rows_all : (row : List RowPair) → IsAmong row rows ↔ IsRow t row
   pub rows_few : length rows ≤ length nodes
-  pub found : (n : Node) → IsNode t n → IsFound (width_of t) numbers rows n (row_of t n)
+  pub found : (n : Node) → IsNode t n → IsRowFound (width_of t) numbers rows n (row_of t n)
 
 -- the rows, which are distinct, have the row at that place, and at most it joined them
 pub record IsKeptOnce (old new : List (List RowPair)) (row : List RowPair) (place : ℕ) : Type 0 where

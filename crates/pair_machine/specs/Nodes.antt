@@ -27,10 +27,13 @@ both_of (Some x) (Some y) = (record { mine = x; theirs = y }) ∷ []
 -- the row of a node: part p of one edge with part s - 1 - p of the other, p from 0, where s is the number of
 -- parts
 unfoldable pub row_of : Tables → Node → List RowPair
-row_of t n = flat_map (λ p. both_of (part_of t n.kind n.edge p) (part_of t n.other n.back (part_count t n.kind n.edge - 1 - p))) (below (λ p. p) (part_count t n.kind n.edge))
+row_of t n = flat_map
+    (λ p. both_of (part_of t n.kind n.edge p) (part_of t n.other n.back (part_count t n.kind n.edge - 1 - p)))
+    (below (λ p. p) (part_count t n.kind n.edge))
 
 -- the node is that of two edges of children of kind k
-pub record IsOfChildren (t : Tables) (k : ℕ) (mine : ChildEdge) (l : ℕ) (theirs : ChildEdge) (n : Node) : Type 0 where
+pub record IsOfChildren (t : Tables) (k : ℕ) (mine : ChildEdge) (l : ℕ) (theirs : ChildEdge)
+    (n : Node) : Type 0 where
   pub kind : child_kind_of t k mine.child ≡ Some n.kind
   pub edge : n.edge ≡ mine.edge
   pub other : child_kind_of t l theirs.child ≡ Some n.other

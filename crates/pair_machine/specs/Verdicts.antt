@@ -9,11 +9,12 @@ use Rattle.pair_machine.specs.declared.verdict.Verdict.TheVariants.{Strangers, S
 
 -- Strangers: no common supertile. Otherwise Same: one address. Otherwise Apart or Beside: the list of all
 -- pairs that touch, empty or not.
-abbrev pub IsVerdict : Tables → Address → Address → Verdict → Type 0
-IsVerdict t a b Strangers = HaveCommon a b → ⊥
-IsVerdict t a b Same = HaveCommon a b × (a ≡ b)
-IsVerdict t a b Apart = HaveCommon a b × (a ≢ b) × IsBetween t a b []
-IsVerdict t a b (Beside pairs) = HaveCommon a b × (a ≢ b) × IsBetween t a b (map as_pair pairs.items) × (pairs.items ≢ [])
+abbrev pub IsPairVerdict : Tables → Address → Address → Verdict → Type 0
+IsPairVerdict t a b Strangers = HaveCommon a b → ⊥
+IsPairVerdict t a b Same = HaveCommon a b × (a ≡ b)
+IsPairVerdict t a b Apart = HaveCommon a b × (a ≢ b) × IsBetween t a b []
+IsPairVerdict t a b (Beside pairs) = HaveCommon a b × (a ≢ b) × IsBetween t a b (map as_pair pairs.items)
+    × (pairs.items ≢ [])
 
 -- the pairs that a verdict names
 abbrev pub pairs_of : Verdict → List Pair

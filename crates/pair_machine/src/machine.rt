@@ -6,10 +6,10 @@ ghost use Rattle.theory_addresses.specs.Search.{IsAmong};
 ghost use Rattle.theory_addresses.specs.Tables.{child_kinds, child_kind_of};
 ghost use Rattle.tile_shape.specs.Views.{address_of, step_of};
 ghost use Rattle.pair_machine.specs.Between.{Pair, HaveCommon, IsBetween};
-ghost use Rattle.pair_machine.specs.Kept.{IsKept, IsFunctional};
+ghost use Rattle.pair_machine.specs.Kept.{ArePairsKept, IsFunctional};
 ghost use Rattle.pair_machine.specs.Nodes.{IsNode, IsRow, IsNumber, row_of as the_row_of};
 ghost use Rattle.pair_machine.specs.Reading.{node_of, step_pairs, pairs_read};
-ghost use Rattle.pair_machine.specs.Verdicts.{IsVerdict, pairs_of};
+ghost use Rattle.pair_machine.specs.Verdicts.{IsPairVerdict, pairs_of};
 ghost use Rattle.pair_machine.specs.Views.{as_node, as_row_pair};
 
 use crate::compare::{also, are_same, have_common, parting};
@@ -49,7 +49,8 @@ impl Model for PairMachine {
 
     ghost view = { λ m. m.tables };
 
-    ghost invariant = { λ m. IsMachine m.tables m.meets_itself (map as_node m.nodes.items) m.numbers.items (map (λ row. map as_row_pair row.items) m.rows.items) };
+    ghost invariant = { λ m. IsMachine m.tables m.meets_itself (map as_node m.nodes.items) m.numbers.items
+        (map (λ row. map as_row_pair row.items) m.rows.items) };
 }
 
 impl PairMachine {
@@ -120,7 +121,7 @@ impl PairMachine {
         requires nodes { (p : Pair) → IsAmong p above.now
             → IsNode self.now (node_of (step_of x) (step_of y) p) }
         requires functional { IsFunctional (step_pairs self.now (step_of x) (step_of y) fresh above.now) }
-        ensures { IsKept result (step_pairs self.now (step_of x) (step_of y) fresh above.now) }
+        ensures { ArePairsKept result (step_pairs self.now (step_of x) (step_of y) fresh above.now) }
     {
         let mut partners = Partners::none();
         if fresh {
@@ -143,7 +144,7 @@ impl PairMachine {
         requires fits_a { Fits (child_kinds self.now) (address_of a.now) }
         requires fits_b { Fits (child_kinds self.now) (address_of b.now) }
         requires one_depth { length a.now.digits.items ≡ length b.now.digits.items }
-        ensures { IsKept result (pairs_read self.now (map step_of a.now.digits.items)
+        ensures { ArePairsKept result (pairs_read self.now (map step_of a.now.digits.items)
             (map step_of b.now.digits.items)) }
     {
         let _coherent = self.tables.kinds();
@@ -177,7 +178,7 @@ impl PairMachine {
     pub fn decide(&self, a: &Address, b: &Address) -> Verdict
         requires fits_a { Fits (child_kinds self.now) (address_of a.now) }
         requires fits_b { Fits (child_kinds self.now) (address_of b.now) }
-        ensures verdict { IsVerdict self.now (address_of a.now) (address_of b.now) result }
+        ensures verdict { IsPairVerdict self.now (address_of a.now) (address_of b.now) result }
         ensures strangers { (result ≡ Verdict.Strangers)
             ↔ (HaveCommon (address_of a.now) (address_of b.now) → ⊥) }
         ensures same { (result ≡ Verdict.Same) ↔ (HaveCommon (address_of a.now) (address_of b.now)
@@ -196,7 +197,7 @@ impl PairMachine {
     fn verdict_of(&self, a: &Address, b: &Address) -> Verdict
         requires fits_a { Fits (child_kinds self.now) (address_of a.now) }
         requires fits_b { Fits (child_kinds self.now) (address_of b.now) }
-        ensures { IsVerdict self.now (address_of a.now) (address_of b.now) result }
+        ensures { IsPairVerdict self.now (address_of a.now) (address_of b.now) result }
     {
         if !have_common(a, b) {
             return Verdict::Strangers;

@@ -6,8 +6,8 @@ ghost use Rattle.theory_addresses.specs.Search.{IsAmong};
 ghost use Rattle.theory_addresses.specs.Tables.{kind_tables, child_kind_of, contacts_of};
 ghost use Rattle.transducer_core.specs.Once.{HasNoneTwice};
 ghost use Rattle.pair_machine.specs.Nodes.{Node as TheNode, IsNode, row_of as the_row_of};
-ghost use Rattle.pair_machine.specs.Numbers.{width_of, IsSmall};
-ghost use Rattle.pair_machine.specs.Searching.{IsSeen, Covers, child_nodes, kind_nodes, first_nodes, row_nodes, children_node};
+ghost use Rattle.pair_machine.specs.Numbers.{width_of, AreNumbersSmall};
+ghost use Rattle.pair_machine.specs.Searching.{IsSeen, CoversCandidates, child_nodes, kind_nodes, first_nodes, row_nodes, children_node};
 ghost use Rattle.pair_machine.specs.Views.{as_node, as_row_pair};
 
 use crate::looks::contact;
@@ -43,8 +43,8 @@ impl Found {
     fn add(&mut self, width: usize, node: Node) -> Result<(), NoMemory>
         requires width { width ≤ 192 }
         requires seen { IsSeen width (map as_node self.old.list.items) self.old.seen.items }
-        requires small { IsSmall width (as_node node) }
-        ensures { IfOk result (λ u. Covers width (map as_node self.old.list.items)
+        requires small { AreNumbersSmall width (as_node node) }
+        ensures { IfOk result (λ u. CoversCandidates width (map as_node self.old.list.items)
             (map as_node self.new.list.items) self.new.seen.items (as_node node ∷ [])) }
     {
         let number = node.number(width);
@@ -60,7 +60,7 @@ impl Found {
         requires coherent { IsCoherent tables.now }
         requires child { IsSome (child_kind_of tables.now parent child) }
         requires seen { IsSeen (width_of tables.now) (map as_node self.old.list.items) self.old.seen.items }
-        ensures { IfOk result (λ u. Covers (width_of tables.now) (map as_node self.old.list.items)
+        ensures { IfOk result (λ u. CoversCandidates (width_of tables.now) (map as_node self.old.list.items)
             (map as_node self.new.list.items) self.new.seen.items
             (child_nodes tables.now parent child (length (contacts_of tables.now parent child)))) }
     {
@@ -94,7 +94,7 @@ impl Found {
         requires coherent { IsCoherent tables.now }
         requires seen { IsSeen (width_of tables.now) (map as_node self.old.list.items) self.old.seen.items }
         requires kind { parent < length tables.now.kinds }
-        ensures { IfOk result (λ u. Covers (width_of tables.now) (map as_node self.old.list.items)
+        ensures { IfOk result (λ u. CoversCandidates (width_of tables.now) (map as_node self.old.list.items)
             (map as_node self.new.list.items) self.new.seen.items
             (kind_nodes tables.now parent (length (kind_tables tables.now parent).children))) }
     {
@@ -108,7 +108,7 @@ impl Found {
     fn add_first(&mut self, tables: &Tables) -> Result<(), NoMemory>
         requires coherent { IsCoherent tables.now }
         requires seen { IsSeen (width_of tables.now) (map as_node self.old.list.items) self.old.seen.items }
-        ensures { IfOk result (λ u. Covers (width_of tables.now) (map as_node self.old.list.items)
+        ensures { IfOk result (λ u. CoversCandidates (width_of tables.now) (map as_node self.old.list.items)
             (map as_node self.new.list.items) self.new.seen.items
             (first_nodes tables.now (length tables.now.kinds))) }
     {
@@ -124,7 +124,7 @@ impl Found {
         requires node { IsNode tables.now (as_node node) }
         requires pair { IsAmong (as_row_pair pair) (the_row_of tables.now (as_node node)) }
         requires seen { IsSeen (width_of tables.now) (map as_node self.old.list.items) self.old.seen.items }
-        ensures { IfOk result (λ u. Covers (width_of tables.now) (map as_node self.old.list.items)
+        ensures { IfOk result (λ u. CoversCandidates (width_of tables.now) (map as_node self.old.list.items)
             (map as_node self.new.list.items) self.new.seen.items
             (children_node tables.now node.kind (as_child_edge pair.mine) node.other
             (as_child_edge pair.theirs))) }
@@ -148,7 +148,7 @@ impl Found {
         requires node { IsNode tables.now (as_node node) }
         requires row { map as_row_pair row.now ≡ the_row_of tables.now (as_node node) }
         requires seen { IsSeen (width_of tables.now) (map as_node self.old.list.items) self.old.seen.items }
-        ensures { IfOk result (λ u. Covers (width_of tables.now) (map as_node self.old.list.items)
+        ensures { IfOk result (λ u. CoversCandidates (width_of tables.now) (map as_node self.old.list.items)
             (map as_node self.new.list.items) self.new.seen.items
             (row_nodes tables.now (as_node node) (the_row_of tables.now (as_node node)))) }
     {

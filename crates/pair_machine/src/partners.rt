@@ -5,9 +5,9 @@ ghost use Rattle.theory_addresses.specs.Search.{IsAmong};
 ghost use Rattle.theory_addresses.specs.Tables.{child_kind_of};
 ghost use Rattle.edge_tables.specs.Views.{as_contact};
 ghost use Rattle.pair_machine.specs.Between.{Pair, IsInOrder};
-ghost use Rattle.pair_machine.specs.Kept.{IsKept, IsFunctional, BelongsAt};
+ghost use Rattle.pair_machine.specs.Kept.{ArePairsKept, IsFunctional, BelongsAt};
 ghost use Rattle.pair_machine.specs.Nodes.{RowPair as TheRowPair};
-ghost use Rattle.pair_machine.specs.Reading.{between_children, left_one, left_of, met_by};
+ghost use Rattle.pair_machine.specs.Reading.{between_children, left_one, left_of, edge_met_by};
 ghost use Rattle.pair_machine.specs.Views.{as_pair, as_row_pair};
 
 use crate::edge_pair::EdgePair;
@@ -100,7 +100,7 @@ impl Partners {
     pub(crate) fn of_children(tables: &Tables, kind: u8, mine: u8, theirs: u8) -> Partners
         requires coherent { IsCoherent tables.now }
         requires child { IsSome (child_kind_of tables.now kind mine) }
-        ensures { IsKept result (between_children tables.now kind mine theirs) }
+        ensures { ArePairsKept result (between_children tables.now kind mine theirs) }
     {
         let mut partners = Partners::none();
         for edge in 0..tables.edges(tables.child_kind(kind, mine)) {
@@ -112,8 +112,8 @@ impl Partners {
     /// Adds that these two edges meet. If the first has a partner already, it is this one.
     fn keep(&mut self, pair: EdgePair)
         requires edge { pair.mine < 12 }
-        ensures { (ps : List Pair) → IsKept self.old ps → IsFunctional (ps ++ as_pair pair ∷ [])
-            → IsKept self.new (ps ++ as_pair pair ∷ []) }
+        ensures { (ps : List Pair) → ArePairsKept self.old ps → IsFunctional (ps ++ as_pair pair ∷ [])
+            → ArePairsKept self.new (ps ++ as_pair pair ∷ []) }
     {
         if let Some(place) = place_for(self.pairs.as_slice(), pair.mine) {
             self.pairs.insert(place, pair);
@@ -123,9 +123,9 @@ impl Partners {
     /// Keeps an inner contact of an edge with a child.
     fn keep_contact(&mut self, edge: u8, theirs: u8, contact: Contact)
         requires edge { edge < 12 }
-        ensures { (ps : List Pair) → IsKept self.old ps
-            → IsFunctional (ps ++ met_by edge theirs (Some (as_contact contact)))
-            → IsKept self.new (ps ++ met_by edge theirs (Some (as_contact contact))) }
+        ensures { (ps : List Pair) → ArePairsKept self.old ps
+            → IsFunctional (ps ++ edge_met_by edge theirs (Some (as_contact contact)))
+            → ArePairsKept self.new (ps ++ edge_met_by edge theirs (Some (as_contact contact))) }
     {
         if let Contact::Inner { child, edge: back } = contact {
             if child == theirs {
@@ -140,9 +140,9 @@ impl Partners {
     /// Keeps a pair of a row, if these children are read.
     fn keep_one(&mut self, pair: RowPair, mine: u8, theirs: u8)
         requires edge { pair.mine.edge < 12 }
-        ensures { (ps : List Pair) → IsKept self.old ps
+        ensures { (ps : List Pair) → ArePairsKept self.old ps
             → IsFunctional (ps ++ left_one (as_row_pair pair) mine theirs)
-            → IsKept self.new (ps ++ left_one (as_row_pair pair) mine theirs) }
+            → ArePairsKept self.new (ps ++ left_one (as_row_pair pair) mine theirs) }
     {
         if pair.mine.child == mine {
             if pair.theirs.child == theirs {
@@ -157,9 +157,9 @@ impl Partners {
     /// Keeps what a row leaves, if these children are read.
     pub(crate) fn keep_row(&mut self, row: &[RowPair], mine: u8, theirs: u8)
         requires edges { (pair : TheRowPair) → IsAmong pair (map as_row_pair row.now) → pair.mine.edge < 12 }
-        ensures { (ps : List Pair) → IsKept self.old ps
+        ensures { (ps : List Pair) → ArePairsKept self.old ps
             → IsFunctional (ps ++ left_of (map as_row_pair row.now) mine theirs)
-            → IsKept self.new (ps ++ left_of (map as_row_pair row.now) mine theirs) }
+            → ArePairsKept self.new (ps ++ left_of (map as_row_pair row.now) mine theirs) }
     {
         for pair in row {
             self.keep_one(*pair, mine, theirs);

@@ -1,7 +1,7 @@
 //! Rows, equal ones kept once.
 ghost use Rattle.std.specs.Prelude.{◌≡◌, ◌<◌, ◌≤◌, [], length, map, IfOk};
 ghost use Rattle.theory_addresses.specs.Coherent.{IsCoherent};
-ghost use Rattle.pair_machine.specs.Alike.{key_of};
+ghost use Rattle.pair_machine.specs.Alike.{row_key};
 ghost use Rattle.pair_machine.specs.Indexed.{IsIndexed};
 ghost use Rattle.pair_machine.specs.Machine.{IsKeptOnce};
 ghost use Rattle.pair_machine.specs.Nodes.{IsNode, row_of as the_row_of};
@@ -42,7 +42,7 @@ impl Rows {
         requires few { width ≤ 192 }
         requires mine { mine_of (as_node node) < length self.now.firsts.items }
         requires theirs { theirs_of (as_node node) < length self.now.firsts.items }
-        ensures { result ≡ key_of width self.now.firsts.items (as_node node) }
+        ensures { result ≡ row_key width self.now.firsts.items (as_node node) }
     {
         let mine = self.firsts[node.mine()];
         let theirs = self.firsts[node.theirs()];

@@ -7,7 +7,8 @@ use Rattle.theory_edge_to_edge.specs.Glue.{glue_type}
 
 -- a type is a glue type of the rule or the mate of one
 abbrev pub is_glued : {A : Type 0} → Rule A → ℕ → Bool
-is_glued r ty = some_below (length r.glue) (λ i. nat_eq ty (glue_type r i) || nat_eq ty (mate r (glue_type r i)))
+is_glued r ty = some_below (length r.glue)
+    (λ i. nat_eq ty (glue_type r i) || nat_eq ty (mate r (glue_type r i)))
 
 -- the type of edge number e of kind k is a glue type or the mate of one
 pub record IsGlueEdge {A : Type 0} (r : Rule A) (k e : ℕ) : Type 0 where

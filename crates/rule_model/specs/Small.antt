@@ -9,7 +9,8 @@ use Rattle.cyclo_points.specs.Point.{coefficient}
 -- a coefficient is above n in absolute value
 abbrev pub is_above : ℕ → Point → Bool
 is_above n p =
-    nat_lt n (nat_abs (coefficient p 0)) || nat_lt n (nat_abs (coefficient p 1)) || nat_lt n (nat_abs (coefficient p 2)) || nat_lt n (nat_abs (coefficient p 3))
+    nat_lt n (nat_abs (coefficient p 0)) || nat_lt n (nat_abs (coefficient p 1))
+    || nat_lt n (nat_abs (coefficient p 2)) || nat_lt n (nat_abs (coefficient p 3))
 
 -- in orders four and six the last two coefficients are 0
 abbrev pub is_of : Order → Point → Bool

@@ -35,5 +35,7 @@ listed_child r k c = get_or (children_of (as_rule r) k) c no_child
 pub record IsUsable (r : Rule) : Type 0 where
   pub numbered : IsNumbered (points_of r.order) (rule_of r)
   pub factor_small : IsSmall r.order r.factor
-  pub vertex_small : (k i : ℕ) → k < length (rule_of r).kinds → i < edge_count (rule_of r) k → IsSmall r.order (listed_vertex r k i)
-  pub shift_small : (k c : ℕ) → k < length (rule_of r).kinds → c < length (children_of (rule_of r) k) → IsSmall r.order (listed_child r k c).motion.shift
+  pub vertex_small : (k i : ℕ) → k < length (rule_of r).kinds → i < edge_count (rule_of r) k
+      → IsSmall r.order (listed_vertex r k i)
+  pub shift_small : (k c : ℕ) → k < length (rule_of r).kinds → c < length (children_of (rule_of r) k)
+      → IsSmall r.order (listed_child r k c).motion.shift

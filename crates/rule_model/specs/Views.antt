@@ -23,10 +23,19 @@ abbrev pub as_child : Child → theory.Child Point
 as_child c = record { kind = c.kind; motion = record { turn = c.turn; shift = c.shift } }
 
 abbrev pub as_kind : KindRow → theory.Kind Point
-as_kind k = record { vertices = k.vertices.items; edges = k.edges.items; children = map as_child k.children.items }
+as_kind k = record {
+  vertices = k.vertices.items;
+  edges = k.edges.items;
+  children = map as_child k.children.items;
+}
 
 abbrev pub as_rule : Rule → theory.Rule Point
-as_rule r = record { factor = r.factor; glue = r.glue.items; types = map as_type r.types.items; kinds = map as_kind r.kinds.items }
+as_rule r = record {
+  factor = r.factor;
+  glue = r.glue.items;
+  types = map as_type r.types.items;
+  kinds = map as_kind r.kinds.items;
+}
 
 -- a rule and a child of the program over the numbers of an order
 abbrev pub rule_in : (o : Order) → Rule → theory.Rule (NumberOf o)

@@ -5,12 +5,12 @@ use Rattle.std.specs.Map.{keys_of}
 use Rattle.std.proofs.lemmas.List.{drop_more, drop_all}
 use Rattle.toml.specs.declared.value.Value.{Value}
 use Rattle.toml.specs.View.{members_view}
-use Rattle.rule_text.specs.Steps.{is_among, has_only}
+use Rattle.rule_text.specs.Steps.{is_key_among, has_only}
 
 pub has_only-keys : (names : List (List ℕ)) (es : List (String Global × Value))
-    → list_all (λ k. is_among names (string_bytes k)) (keys_of es) ≡ has_only names (members_view es)
+    → list_all (λ k. is_key_among names (string_bytes k)) (keys_of es) ≡ has_only names (members_view es)
 has_only-keys names [] = refl
-has_only-keys names (e ∷ es) = ap (λ b. is_among names (string_bytes e.0) && b) (has_only-keys names es)
+has_only-keys names (e ∷ es) = ap (λ b. is_key_among names (string_bytes e.0) && b) (has_only-keys names es)
 
 pub list_any-map : {A B : Type 0} (p : B → Bool) (f : A → B) (xs : List A) → list_any p (map f xs) ≡ list_any (λ x. p (f x)) xs
 list_any-map p f [] = refl

@@ -12,7 +12,7 @@ use Rattle.rule_text.specs.declared.key.Key.{Key}
 use Rattle.rule_text.specs.declared.key.Key.TheVariants as key
 use Rattle.rule_text.specs.declared.text_fault.TextFault.{TextFault}
 use Rattle.rule_text.specs.Forms.{each, integer_list, row, rows, tables}
-use Rattle.rule_text.specs.Ranges.{number_below, format_of, order_of, point_of, child_in_row}
+use Rattle.rule_text.specs.Ranges.{number_below, format_of, order_of, file_point, child_in_row}
 use Rattle.rule_text.specs.Steps.{value_at, in_order}
 use Rattle.rule_text.specs.Document.{type_in, kind_in, types_in, kinds_in, rule_of_members}
 use Rattle.rule_model.specs.Tiling.{ListedRule}
@@ -60,11 +60,11 @@ numbers-at k name ns ms e all =
 
 vertices-at : (o : Order) (k : Key) (ps : List Point) (ms : Members)
     → get_member (codes "vertices") ms ≡ Some (list_data point_data ps) → All (IsFitPoint o) ps
-    → value_at k (codes "vertices") (rows 4) (each (point_of o)) ms ≡ Ok ps
+    → value_at k (codes "vertices") (rows 4) (each (file_point o)) ms ≡ Ok ps
 vertices-at o k ps ms e all =
-    value-read k (codes "vertices") (rows 4) (each (point_of o)) ms (list_data point_data ps) (map (λ p. p.c) ps) ps e
+    value-read k (codes "vertices") (rows 4) (each (file_point o)) ms (list_data point_data ps) (map (λ p. p.c) ps) ps e
     (rows-read 4 point_data (λ p. p.c) ps (λ i d lt. row-read 4 _ (all i d lt).four))
-    (each-same (point_of o) (λ p. p.c) ps (λ i d lt. point-read o _ (all i d lt).small))
+    (each-same (file_point o) (λ p. p.c) ps (λ i d lt. point-read o _ (all i d lt).small))
 
 -- the six numbers of a child
 abbrev six : Child Point → List ℤ
@@ -129,7 +129,7 @@ rule-read x h not_six =
       value-read key.Format (codes "format") as_integer format_of ms (number_data f) (pos f) x.edition refl refl (format-read x.edition),
       value-read key.Order (codes "order") as_integer (order_of x.edition) ms (number_data n) (pos n) x.order
           refl refl (order-read x.edition x.order not_six),
-      value-read key.Lambda (codes "lambda") (row 4) (point_of x.order) ms (point_data r.factor) r.factor.c
+      value-read key.Lambda (codes "lambda") (row 4) (file_point x.order) ms (point_data r.factor) r.factor.c
           r.factor refl (row-read 4 r.factor.c h.factor.four) (point-read x.order r.factor h.factor.small),
       numbers-at key.Glue (codes "glue") r.glue ms refl h.glue,
       types-read x h.types,

@@ -10,7 +10,7 @@ use Rattle.rule_model.specs.Small.{is_small}
 use Rattle.rule_model.specs.declared.edition.Edition.{Edition}
 use Rattle.rule_model.specs.declared.edition.Edition.TheVariants.{One, Two}
 use Rattle.rule_text.specs.Forms.{each}
-use Rattle.rule_text.specs.Ranges.{number_below, format_of, order_of, point_of, child_in_row}
+use Rattle.rule_text.specs.Ranges.{number_below, format_of, order_of, file_point, child_in_row}
 use Rattle.rule_text.specs.Written.{format_number}
 use Rattle.rule_text.proofs.ReadForms.{each-same}
 
@@ -34,7 +34,7 @@ order-read Two Six not_six = refl
 order-read Two Eight not_six = refl
 order-read Two Ten not_six = refl
 
-pub point-read : (o : Order) (p : Point) → is_small o p ≡ true → point_of o p.c ≡ Some p
+pub point-read : (o : Order) (p : Point) → is_small o p ≡ true → file_point o p.c ≡ Some p
 point-read o p h = rw h refl
 
 pub child-read : (o : Order) (c : Child Point) → c.kind < 16 → c.motion.turn < (points_of o).order → is_small o c.motion.shift ≡ true

@@ -21,7 +21,8 @@ format_of z = if int_eq z (pos 1) then Some One else if int_eq z (pos 2) then So
 
 -- an order of both editions: 4, 8 or 10
 abbrev pub shared_order_of : ℤ → Option Order
-shared_order_of z = if int_eq z (pos 4) then Some Four else if int_eq z (pos 8) then Some Eight else if int_eq z (pos 10) then Some Ten else None
+shared_order_of z = if int_eq z (pos 4) then Some Four else if int_eq z (pos 8) then Some Eight else if int_eq
+    z (pos 10) then Some Ten else None
 
 -- an order of the edition: 4, 8 or 10, and in edition two also 6
 abbrev pub order_of : Edition → ℤ → Option Order
@@ -29,13 +30,13 @@ order_of One z = shared_order_of z
 order_of Two z = if int_eq z (pos 6) then Some Six else shared_order_of z
 
 -- a point of the order with these four coefficients, each from -64 to 64
-abbrev pub point_of : Order → List ℤ → Option Point
-point_of o zs = if is_small o (record { c = zs }) then Some (record { c = zs }) else None
+abbrev pub file_point : Order → List ℤ → Option Point
+file_point o zs = if is_small o (record { c = zs }) then Some (record { c = zs }) else None
 
 -- a child: a kind below 16, a turn below the order, and the four coefficients of a shift
 abbrev pub child_in_row : Order → List ℤ → Option (Child Point)
 child_in_row o zs = do
   kind ← number_below 16 (get_or zs 0 (pos 0))
   turn ← number_below (points_of o).order (get_or zs 1 (pos 0))
-  shift ← point_of o (drop 2 zs)
+  shift ← file_point o (drop 2 zs)
   Some (record { kind = kind; motion = record { turn = turn; shift = shift } })

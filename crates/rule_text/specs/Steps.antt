@@ -13,20 +13,21 @@ abbrev pub ◌>>=◌ : {A B : Type 0} → Result A TextFault → (A → Result B
 (Err e) >>= f = Err e
 
 -- the value of a key; the faults are, in this order, that it is missing, has another form, or is out of range
-unfoldable pub value_at : {A B : Type 0} → Key → List ℕ → (Data → Option A) → (A → Option B) → Members → Result B TextFault
+unfoldable pub value_at : {A B : Type 0} → Key → List ℕ → (Data → Option A) → (A → Option B) → Members
+    → Result B TextFault
 value_at key name form range members = do
   d ← ok_or (get_member name members) (Missing key)
   x ← ok_or (form d) (WrongType key)
   ok_or (range x) (OutOfRange key)
 
 -- the key is one of these
-abbrev pub is_among : List (List ℕ) → List ℕ → Bool
-is_among names key = list_any (bytes_eq key) names
+abbrev pub is_key_among : List (List ℕ) → List ℕ → Bool
+is_key_among names key = list_any (bytes_eq key) names
 
 -- each key is one of these
 abbrev pub has_only : List (List ℕ) → Members → Bool
 has_only names no_members = true
-has_only names (member key d members) = is_among names key && has_only names members
+has_only names (member key d members) = is_key_among names key && has_only names members
 
 -- the value, if the table has no further key
 abbrev pub unless_further : {A : Type 0} → List (List ℕ) → Place → Members → A → Result A TextFault

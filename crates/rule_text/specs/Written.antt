@@ -14,7 +14,9 @@ use Rattle.rule_model.specs.Tiling.{ListedRule}
 -- the members, with a value put at a key, in the order of the keys
 abbrev pub put_member : List ℕ → Data → Members → Members
 put_member k d no_members = member k d no_members
-put_member k d (member l e ms) = match_ordering (slice_cmp nat_cmp k l) (member k d (member l e ms)) (member l d ms) (member l e (put_member k d ms))
+put_member k d (member l e ms) =
+    match_ordering (slice_cmp nat_cmp k l) (member k d (member l e ms)) (member l d ms)
+    (member l e (put_member k d ms))
 
 abbrev pub number_data : ℕ → Data
 number_data n = integer (pos n)
@@ -33,7 +35,8 @@ child_data c = list_data integer (pos c.kind ∷ pos c.motion.turn ∷ c.motion.
 
 -- a type, and a kind, with its keys in alphabetical order
 abbrev pub type_members : EdgeType → Members
-type_members t = member (codes "mate") (number_data t.mate) (member (codes "parts") (list_data number_data t.parts) no_members)
+type_members t = member (codes "mate") (number_data t.mate)
+    (member (codes "parts") (list_data number_data t.parts) no_members)
 
 abbrev pub type_data : EdgeType → Data
 type_data t = table (type_members t)

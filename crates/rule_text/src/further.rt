@@ -1,13 +1,13 @@
 //! Finds out if a table has a key that the format does not.
 ghost use Rattle.std.specs.Prelude.{◌≡◌, map};
 ghost use Rattle.toml.specs.View.{table_view};
-ghost use Rattle.rule_text.specs.Steps.{is_among, has_only};
+ghost use Rattle.rule_text.specs.Steps.{is_key_among, has_only};
 
 use toml::Table;
 
 /// Returns true if the key is one of the names.
 fn is_among(names: &[&str], key: &str) -> bool
-    ensures { result ≡ is_among (map (λ name. name.now) names.now) key.now }
+    ensures { result ≡ is_key_among (map (λ name. name.now) names.now) key.now }
 {
     for name in names {
         if key == *name {

@@ -6,7 +6,7 @@ ghost use Rattle.toml.specs.View.{view, table_view};
 ghost use Rattle.rule_model.specs.Views.{as_child};
 ghost use Rattle.rule_text.specs.Agrees.{ReadsAs};
 ghost use Rattle.rule_text.specs.Forms.{each, integer_list, row, rows, tables};
-ghost use Rattle.rule_text.specs.Ranges.{number_below, format_of, order_of, point_of, child_in_row};
+ghost use Rattle.rule_text.specs.Ranges.{number_below, format_of, order_of, file_point, child_in_row};
 ghost use Rattle.rule_text.specs.Steps.{value_at};
 
 use crate::key::Key;
@@ -64,7 +64,7 @@ pub(crate) fn order(table: &Table, edition: Edition) -> Result<Order, TextFault>
 /// Reads `lambda`, the inflation factor: four coefficients.
 #[tactic(auto, unfolding(crate::specs::Steps::value_at))]
 pub(crate) fn lambda(alloc: Global, table: &Table, order: Order) -> Result<Point, TextFault>
-    ensures { ReadsAs (λ p. p) result (value_at Key.Lambda (codes "lambda") (row 4) (point_of order)
+    ensures { ReadsAs (λ p. p) result (value_at Key.Lambda (codes "lambda") (row 4) (file_point order)
         (table_view table.now)) }
 {
     let key = Key::Lambda;
@@ -123,7 +123,7 @@ pub(crate) fn vertices(
     key: Key,
 ) -> Result<Vec<Point>, TextFault>
     ensures { ReadsAs (λ v. v.items) result (value_at key (codes "vertices") (rows 4)
-        (each (point_of order)) (table_view table.now)) }
+        (each (file_point order)) (table_view table.now)) }
 {
     let Some(value) = value_named(table, "vertices") else {
         return Err(TextFault::Missing { key });

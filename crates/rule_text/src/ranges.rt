@@ -3,7 +3,7 @@
 ghost use Rattle.std.specs.Prelude.{◌≡◌, All, length, map, option_map, IfOk};
 ghost use Rattle.rule_model.specs.Views.{as_child};
 ghost use Rattle.rule_text.specs.Forms.{each};
-ghost use Rattle.rule_text.specs.Ranges.{number_below, format_of, shared_order_of, order_of, point_of, child_in_row};
+ghost use Rattle.rule_text.specs.Ranges.{number_below, format_of, shared_order_of, order_of, file_point, child_in_row};
 
 use cyclo_points::order::Order;
 use cyclo_points::point::Point;
@@ -89,7 +89,7 @@ pub(crate) fn numbers_below(
 /// Returns the point of the order with these four coefficients, if each is in range.
 pub(crate) fn point_of(order: Order, numbers: &[i64]) -> Option<Point>
     requires { length numbers.now ≡ 4 }
-    ensures { result ≡ point_of order numbers.now }
+    ensures { result ≡ file_point order numbers.now }
 {
     let point = Point {
         c: [numbers[0], numbers[1], numbers[2], numbers[3]],
@@ -108,7 +108,7 @@ pub(crate) fn points_of(
     rows: &[Vec<i64>],
 ) -> Result<Option<Vec<Point>>, NoMemory>
     requires { All (λ row. length row.items ≡ 4) rows.now }
-    ensures { IfOk result (λ found. option_map (λ v. v.items) found ≡ each (λ row. point_of order row.items)
+    ensures { IfOk result (λ found. option_map (λ v. v.items) found ≡ each (λ row. file_point order row.items)
         rows.now) }
 {
     let mut points = Vec::with_capacity(alloc, rows.len())?;

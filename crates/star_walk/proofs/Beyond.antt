@@ -27,8 +27,8 @@ use Rattle.theory_stars.specs.Corners.{edge_into, IsNext, Turns, last_corner}
 use Rattle.theory_stars.proofs.CornerNumbers.{some-same}
 use Rattle.star_walk.specs.declared.corner.Corner.{Corner}
 use Rattle.star_walk.specs.Corners.{CornerOf, vertex_of_base}
-use Rattle.star_walk.specs.Found.{its_edge, deepest_of, name_of, base_name, IsOnTheWay, HasTurned}
-use Rattle.star_walk.specs.Round.{IsLeastEnough}
+use Rattle.star_walk.specs.Found.{its_edge, deepest_of, corner_name, base_name, IsOnTheWay, HasTurned}
+use Rattle.star_walk.specs.Round.{IsLeastForVertex}
 use Rattle.star_walk.specs.StarLaws.{HasStarLaws}
 use Rattle.star_walk.proofs.Turning.{base-at, own-edge, on-part}
 
@@ -63,7 +63,7 @@ module _ (m : Rule) (settled : IsSettled m) (fits : StillFits (children (tiling_
   TurnsF = Turns P.real (Placed (NumberOf m.order)) (frame_patch P T.rule F)
 
   -- the corners on the way are there at an enough depth, and so is one after the last
-  onward : (n : ℕ) → IsLeastEnough t f i n → (others : List (CornerOf t)) → TurnsF base others
+  onward : (n : ℕ) → IsLeastForVertex t f i n → (others : List (CornerOf t)) → TurnsF base others
       → (deepest_of t f others ≤ n) × ((d : CornerOf t) × NextF (last_corner base others) d × (level_in F d.tile.address ≤ n))
   onward n enough others turns =
       L.onward G (L.simple T F (names m settled fits f is)) v (length f.digits) n enough.not_below
@@ -71,11 +71,11 @@ module _ (m : Rule) (settled : IsSettled m) (fits : StillFits (children (tiling_
       base (base-at m settled fits L f is i vertex) others turns
 
   pub not_beyond-way : (g : FrameValue) (corners : List Corner) (last : Corner) → IsOnTheWay t f g i corners last
-      → (n : ℕ) → IsLeastEnough t f i n → length g.digits ≤ n
+      → (n : ℕ) → IsLeastForVertex t f i n → length g.digits ≤ n
   not_beyond-way g corners last w n enough = subst (λ d. d ≤ n) (sym w.depth_is) (onward n enough w.others w.in_order).0
 
   pub not_beyond-turned : (g : FrameValue) (corners : List Corner) → HasTurned t f g i corners
-      → (n : ℕ) → IsLeastEnough t f i n → length g.digits ≤ n
+      → (n : ℕ) → IsLeastForVertex t f i n → length g.digits ≤ n
   not_beyond-turned g corners w n enough = subst (λ d. d ≤ n) (sym w.depth_is) (onward n enough w.others w.turn.in_order).0
 
   -- ---- on the boundary at depth 64
@@ -107,7 +107,7 @@ module _ (m : Rule) (settled : IsSettled m) (fits : StillFits (children (tiling_
         ∙ L.lines T u exists e (own-edge m settled fits L f is i vertex g corners last w k h at_64 on).edge_exists
 
     -- no corner comes after it
-    no-next : (d : CornerOf t) → NextF (name_of t f last) d → ⊥
+    no-next : (d : CornerOf t) → NextF (corner_name t f last) d → ⊥
     no-next d x =
         let part = on-part m settled fits L f is i vertex g corners last w k h at_64 on in
         absurd (L.last T F a e (own-edge m settled fits L f is i vertex g corners last w k h at_64 on)
@@ -120,7 +120,7 @@ module _ (m : Rule) (settled : IsSettled m) (fits : StillFits (children (tiling_
         }))
 
     -- so no depth is enough
-    pub never-enough : (n : ℕ) → IsLeastEnough t f i n → ⊥
+    pub never-enough : (n : ℕ) → IsLeastForVertex t f i n → ⊥
     never-enough n enough =
         let go = onward n enough w.others w.in_order in
         no-next go.1.0 (subst (λ c. NextF c go.1.0) (sym w.last_is) go.1.1)

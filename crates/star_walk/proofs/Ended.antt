@@ -37,10 +37,10 @@ use Rattle.theory_stars.specs.FrameStar.{corner_named, lifted_corner, AreOfDepth
 use Rattle.theory_stars.specs.Round.{IsRound}
 use Rattle.theory_stars.specs.GrownStar.{IsStar}
 use Rattle.star_walk.specs.declared.corner.Corner.{Corner}
-use Rattle.star_walk.specs.Causes.{most_corners, IsWithinLimits}
+use Rattle.star_walk.specs.Causes.{most_corners, IsStarWithinLimits}
 use Rattle.star_walk.specs.Corners.{CornerOf, corner_in, vertex_of_base}
-use Rattle.star_walk.specs.Found.{IsFound, name_of, base_name, HasTurned, IsRaised}
-use Rattle.star_walk.specs.Round.{AreRound, AreInTurn, IsLeastEnough}
+use Rattle.star_walk.specs.Found.{IsFoundInTurn, corner_name, base_name, HasTurned, IsRaised}
+use Rattle.star_walk.specs.Round.{AreRound, AreInTurn, IsLeastForVertex}
 use Rattle.star_walk.specs.StarLaws.{HasStarLaws}
 use Rattle.star_walk.proofs.Turning.{base-at}
 
@@ -85,7 +85,7 @@ module _ (m : Rule) (settled : IsSettled m) (fits : StillFits (children (tiling_
   within = omega (arith, w.grows.is_frame.at_most_64, deep m settled fits f is)
 
   -- ---- one corner
-  module _ (c d : Corner) (found : IsFound t g most_corners c) (raised : IsRaised g c d) where
+  module _ (c d : Corner) (found : IsFoundInTurn t g most_corners c) (raised : IsRaised g c d) where
     abbrev a : Address
     a = address_of c.tile.addr
 
@@ -110,7 +110,7 @@ module _ (m : Rule) (settled : IsSettled m) (fits : StillFits (children (tiling_
     depth-is : depth b ≡ length g.digits
     depth-is = own.same_depth
 
-    pub lifted-name : lifted_corner F (corner_in m.order d) ≡ name_of t f c
+    pub lifted-name : lifted_corner F (corner_in m.order d) ≡ corner_name t f c
     lifted-name = λ j. record { tile = (whole-name ∙ renamed) j; vertex = raised.same_vertex j }
       where
         whole-name : record { address = lifted_in F b; motion = motion_in m.order d.tile.motion } ≡ in_frame P T.rule F b
@@ -135,22 +135,22 @@ module _ (m : Rule) (settled : IsSettled m) (fits : StillFits (children (tiling_
         (point_wider (2 ^ 8 * most_corners) (2 ^ 24) _ (omega arith) found.shift_within)
 
   -- ---- all corners
-  names-lifted : (cs ds : List Corner) → AllByRecursion (IsFound t g most_corners) cs
-      → AllZip (IsRaised g) cs ds → map (lifted_corner F) (map (corner_in m.order) ds) ≡ map (name_of t f) cs
+  names-lifted : (cs ds : List Corner) → AllByRecursion (IsFoundInTurn t g most_corners) cs
+      → AllZip (IsRaised g) cs ds → map (lifted_corner F) (map (corner_in m.order) ds) ≡ map (corner_name t f) cs
   names-lifted [] [] h z = refl
   names-lifted [] (d ∷ ds) h z = absurd z
   names-lifted (c ∷ cs) [] h z = absurd z
   names-lifted (c ∷ cs) (d ∷ ds) h z = ap₂ (λ (x : CornerOf t) (xs : List (CornerOf t)). x ∷ xs)
       (lifted-name c d h.0 z.0) (names-lifted cs ds h.1 z.1)
 
-  all-deep : (cs ds : List Corner) → AllByRecursion (IsFound t g most_corners) cs → AllZip (IsRaised g) cs ds
+  all-deep : (cs ds : List Corner) → AllByRecursion (IsFoundInTurn t g most_corners) cs → AllZip (IsRaised g) cs ds
       → AreOfDepth (length g.digits) (map (corner_in m.order) ds)
   all-deep [] [] h z = tt
   all-deep [] (d ∷ ds) h z = absurd z
   all-deep (c ∷ cs) [] h z = absurd z
   all-deep (c ∷ cs) (d ∷ ds) h z = (depth-is c d h.0 z.0, all-deep cs ds h.1 z.1)
 
-  pub all-stand : (cs ds : List Corner) → AllByRecursion (IsFound t g most_corners) cs
+  pub all-stand : (cs ds : List Corner) → AllByRecursion (IsFoundInTurn t g most_corners) cs
       → AllZip (IsRaised g) cs ds → AllByRecursion
       (λ (d : Corner). Stands t g d.tile × IsWithin (2 ^ 24) d.tile.motion.shift) ds
   all-stand [] [] h z = tt
@@ -166,11 +166,11 @@ module _ (m : Rule) (settled : IsSettled m) (fits : StillFits (children (tiling_
   star-named = subst (λ k. IsStar P.real (Placed (NumberOf m.order)) G v (length f.digits) k (base ∷ w.others)) (sym w.depth_is)
       (L.answers G (L.simple T F (names m settled fits f is)) v (length f.digits) base (base-at m settled fits L f is i vertex) w.others w.turn)
 
-  pub least : IsLeastEnough t f i (length g.digits)
+  pub least : IsLeastForVertex t f i (length g.digits)
   least = L.least T F (names m settled fits f is) (is_refused m.order) v (length f.digits) (length g.digits) within star-named.least
 
   -- depth 64 is enough, and no more tiles have the vertex there
-  pub within-limits : IsWithinLimits t f i
+  pub within-limits : IsStarWithinLimits t f i
   within-limits =
       let d = deep m settled fits f is in
       let all = L.whole G (L.simple T F (names m settled fits f is)) v (length f.digits) base
@@ -182,7 +182,7 @@ module _ (m : Rule) (settled : IsSettled m) (fits : StillFits (children (tiling_
       }
     where
       count : length (base ∷ w.others) ≡ length corners
-      count = ap length (sym w.names_are) ∙ length-map corners (name_of t f)
+      count = ap length (sym w.names_are) ∙ length-map corners (corner_name t f)
 
   -- the vertex of the base is the same in a frame that has grown
   vertex-same : vertex_of_base t g i ≡ v
@@ -226,13 +226,13 @@ module _ (m : Rule) (settled : IsSettled m) (fits : StillFits (children (tiling_
       turn = frame-star.turn;
     }
       where
-        h : AllByRecursion (IsFound t g most_corners) (c ∷ cs)
-        h = subst (AllByRecursion (IsFound t g most_corners)) e w.found
+        h : AllByRecursion (IsFoundInTurn t g most_corners) (c ∷ cs)
+        h = subst (AllByRecursion (IsFoundInTurn t g most_corners)) e w.found
 
         one : AllZip (IsRaised g) (c ∷ cs) (first ∷ rest)
         one = subst (λ xs. AllZip (IsRaised g) xs (first ∷ rest)) e z
 
-        own-name : lifted_corner F base' ≡ name_of t f c
+        own-name : lifted_corner F base' ≡ corner_name t f c
         own-name = lifted-name c first h.0 one.0
 
         -- its own address names it too
@@ -253,7 +253,7 @@ module _ (m : Rule) (settled : IsSettled m) (fits : StillFits (children (tiling_
             (subst AtF (sym named) (base-at m settled fits L f is i vertex).0) (subst AtF name-own (base-at m settled fits L f is i vertex).0)
 
   -- ---- as it is answered: there is a corner
-  some-name : (cs : List Corner) → map (name_of t f) cs ≡ base ∷ w.others → (c : Corner) × (more : List Corner) × (cs ≡ c ∷ more)
+  some-name : (cs : List Corner) → map (corner_name t f) cs ≡ base ∷ w.others → (c : Corner) × (more : List Corner) × (cs ≡ c ∷ more)
   some-name [] e = absurd (cc e)
   some-name (c ∷ cs) e = (c, cs, refl)
 

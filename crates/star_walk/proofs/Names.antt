@@ -30,7 +30,7 @@ use Rattle.theory_windows.specs.FramePatch.{in_frame, level_in, frame_patch}
 use Rattle.theory_windows.specs.FrameSearch.{IsGrownCrossing}
 use Rattle.theory_stars.specs.Corners.{IsNext}
 use Rattle.star_walk.specs.declared.corner.Corner.{Corner}
-use Rattle.star_walk.specs.Found.{its_edge, IsFound, name_of}
+use Rattle.star_walk.specs.Found.{its_edge, IsFoundInTurn, corner_name}
 use Rattle.star_walk.specs.StarLaws.{HasStarLaws}
 
 module _ (m : Rule) (settled : IsSettled m) (fits : StillFits (children (tiling_of m)))
@@ -48,7 +48,7 @@ module _ (m : Rule) (settled : IsSettled m) (fits : StillFits (children (tiling_
   F = full t f
 
   module _ (g : FrameValue) (h : GrowsTo t f g) where
-    module _ (a b : Corner) (n : ℕ) (found : IsFound t f n a)
+    module _ (a b : Corner) (n : ℕ) (found : IsFoundInTurn t f n a)
         (vertex_exists : its_edge t a < edge_count T.rule a.tile.addr.kind)
         (x : IsCrossedTo t f g (address_of a.tile.addr) a.tile.motion (its_edge t a) b.tile b.vertex) where
       abbrev own : Address
@@ -81,12 +81,12 @@ module _ (m : Rule) (settled : IsSettled m) (fits : StillFits (children (tiling_
       }
 
       -- it is the next corner, and the frame has grown to its level, where it wasn't as deep already
-      pub next-named : IsNext P.real (Placed (NumberOf m.order)) (frame_patch P T.rule F) (name_of t f a)
-          (name_of t f b) × (max (length f.digits) (level_in F (lifted_in F other)) ≡ length g.digits)
+      pub next-named : IsNext P.real (Placed (NumberOf m.order)) (frame_patch P T.rule F) (corner_name t f a)
+          (corner_name t f b) × (max (length f.digits) (level_in F (lifted_in F other)) ≡ length g.digits)
       next-named = L.next T F (length f.digits) (length g.digits) own a.vertex other b.vertex grown
 
       -- and found in its place
-      pub next-found : IsFound t g (n + 1) b
+      pub next-found : IsFoundInTurn t g (n + 1) b
       next-found = record {
         its_kind = x.its_kind;
         of_frame = x.of_frame;
@@ -100,7 +100,7 @@ module _ (m : Rule) (settled : IsSettled m) (fits : StillFits (children (tiling_
       }
 
     -- what was found before stays found
-    pub found-later : (n k : ℕ) → n ≤ k → (c : Corner) → IsFound t f n c → IsFound t g k c
+    pub found-later : (n k : ℕ) → n ≤ k → (c : Corner) → IsFoundInTurn t f n c → IsFoundInTurn t g k c
     found-later n k le c found = record {
       its_kind = found.its_kind;
       of_frame = IsTileOf-later t f g (address_of c.tile.addr) h is found.of_frame;

@@ -42,7 +42,7 @@ use Rattle.theory_windows.specs.Distinct.{AreDistinct}
 use Rattle.theory_windows.specs.FrameLaws.{IsEdgeInFrame}
 use Rattle.theory_windows.specs.FramePatch.{growing_frame, frame_patch, level_in}
 use Rattle.theory_windows.specs.GrowingPatch.{GrowingPatch}
-use Rattle.theory_stars.specs.Corners.{IsCornerAt, edge_into, IsNext, Turns, last_corner, tiles_of}
+use Rattle.theory_stars.specs.Corners.{IsCornerAt, edge_into, IsNext, Turns, last_corner, corner_tiles}
 use Rattle.theory_stars.specs.EnoughAt.{IsEnoughAt}
 use Rattle.theory_stars.specs.FrameStar.{corner_named, AreAtVertex}
 use Rattle.theory_stars.specs.GrownStar.{IsCornerOfDepth, deepest}
@@ -51,9 +51,9 @@ use Rattle.theory_stars.proofs.GrownStar.{each-level, turns-more, last-more}
 use Rattle.theory_stars.proofs.Turning.{turn-at, last-among}
 use Rattle.star_walk.specs.declared.corner.Corner.{Corner}
 use Rattle.star_walk.specs.declared.star_fault.StarFault.TheVariants.{DepthLimit, TooBig}
-use Rattle.star_walk.specs.Causes.{most_corners, HasCause, IsWithinLimits}
+use Rattle.star_walk.specs.Causes.{most_corners, HasStarCause, IsStarWithinLimits}
 use Rattle.star_walk.specs.Corners.{CornerOf, vertex_of_base}
-use Rattle.star_walk.specs.Found.{its_edge, IsFound, name_of, base_name, IsOnTheWay, HasTurned}
+use Rattle.star_walk.specs.Found.{its_edge, IsFoundInTurn, corner_name, base_name, IsOnTheWay, HasTurned}
 use Rattle.star_walk.specs.StarLaws.{HasStarLaws}
 use Rattle.star_walk.proofs.Names.{next-named, next-found, found-later}
 
@@ -111,12 +111,12 @@ module _ (m : Rule) (settled : IsSettled m) (fits : StillFits (children (tiling_
 
   -- ---- the edge at a corner
   corner-below : (g : Address) (c : Corner) → IsTileOf (children t) g (address_of c.tile.addr)
-      → AtF (name_of t f c) → c.vertex < edge_count T.rule c.tile.addr.kind
+      → AtF (corner_name t f c) → c.vertex < edge_count T.rule c.tile.addr.kind
   corner-below g c of at =
       subst (λ n. c.vertex < n) (length-map (vertices_of T.rule c.tile.addr.kind) _
       ∙ T.numbered.vertex_each c.tile.addr.kind
       (subst (λ n. c.tile.addr.kind < n) (length-map T.rule.kinds _) of.fits.kind_exists))
-      (slice_get_within (tile_polygon P T.rule (λ z. z) (name_of t f c).tile) c.vertex v at.1)
+      (slice_get_within (tile_polygon P T.rule (λ z. z) (corner_name t f c).tile) c.vertex v at.1)
 
   -- ---- the first state
   pub started : (tile : PlacedTile) → address_of tile.addr ≡ whole f → Stands t f tile
@@ -140,7 +140,7 @@ module _ (m : Rule) (settled : IsSettled m) (fits : StillFits (children (tiling_
       beside : motion_beside P T.rule (whole f).digits (address_of tile.addr).digits ≡ motion_in m.order tile.motion
       beside = stands.in_frame.alone _ (StandsInFrame-whole P L.points (some_turn m.order) T.rule (whole f) (address_of tile.addr) own).among
 
-      found : IsFound t f 1 (record { tile = tile; vertex = i })
+      found : IsFoundInTurn t f 1 (record { tile = tile; vertex = i })
       found = record {
         its_kind = stands.its_kind;
         of_frame = stands.of_frame;
@@ -159,7 +159,7 @@ module _ (m : Rule) (settled : IsSettled m) (fits : StillFits (children (tiling_
     same : full t g ≡ F
     same = full-later t f g w.grows
 
-    pub last-at : AtF (name_of t f last)
+    pub last-at : AtF (corner_name t f last)
     last-at = subst AtF (sym w.last_is)
         (turn-at P.real L.points.of_real L.points.of_order (frame_patch P T.rule F) simple v base w.others
         base-at.0 w.in_order (last_corner base w.others)
@@ -178,9 +178,9 @@ module _ (m : Rule) (settled : IsSettled m) (fits : StillFits (children (tiling_
         both : GrowsTo t f k
         both = GrowsTo-then t f g k w.grows h
 
-        next : NextF (last_corner base w.others) (name_of t f b)
+        next : NextF (last_corner base w.others) (corner_name t f b)
             × (max (length g.digits) (level_in F (lifted_in F (address_of b.tile.addr))) ≡ length k.digits)
-        next = subst (λ c. NextF c (name_of t f b)
+        next = subst (λ c. NextF c (corner_name t f b)
             × (max (length g.digits) (level_in F (lifted_in F (address_of b.tile.addr))) ≡ length k.digits))
             w.last_is
             (subst (λ y. IsNext P.real (Placed (NumberOf m.order)) (frame_patch P T.rule y)
@@ -189,30 +189,30 @@ module _ (m : Rule) (settled : IsSettled m) (fits : StillFits (children (tiling_
             × (max (length g.digits) (level_in y (lifted_in y (address_of b.tile.addr))) ≡ length k.digits)) same
             (next-named m settled fits L g now k h last b (length corners) w.last_found edge-below x))
 
-        turned : Turns P.real (Placed (NumberOf m.order)) (frame_patch P T.rule F) base (w.others ++ name_of t f b ∷ [])
-        turned = turns-more P.real L.points.of_real L.points.of_order G simple v base w.others (name_of t f b) w.in_order next.0
+        turned : Turns P.real (Placed (NumberOf m.order)) (frame_patch P T.rule F) base (w.others ++ corner_name t f b ∷ [])
+        turned = turns-more P.real L.points.of_real L.points.of_order G simple v base w.others (corner_name t f b) w.in_order next.0
 
-        b-at : AtF (name_of t f b)
+        b-at : AtF (corner_name t f b)
         b-at = turn-at P.real L.points.of_real L.points.of_order (frame_patch P T.rule F) simple v base
-            (w.others ++ name_of t f b ∷ []) base-at.0 turned (name_of t f b) (inr (more w.others))
+            (w.others ++ corner_name t f b ∷ []) base-at.0 turned (corner_name t f b) (inr (more w.others))
           where
-            more : (ds : List (CornerOf t)) → IsAmong (name_of t f b) (ds ++ name_of t f b ∷ [])
+            more : (ds : List (CornerOf t)) → IsAmong (corner_name t f b) (ds ++ corner_name t f b ∷ [])
             more [] = inl refl
             more (d ∷ ds) = inr (more ds)
 
-        deepest-more : (n : ℕ) (ds : List (CornerOf t)) → deepest P.real (Placed (NumberOf m.order)) G n (ds ++ name_of t f b ∷ [])
+        deepest-more : (n : ℕ) (ds : List (CornerOf t)) → deepest P.real (Placed (NumberOf m.order)) G n (ds ++ corner_name t f b ∷ [])
             ≡ max (deepest P.real (Placed (NumberOf m.order)) G n ds) (level_in F (lifted_in F (address_of b.tile.addr)))
         deepest-more n [] = refl
         deepest-more n (d ∷ ds) = deepest-more (max n (level_in F d.tile.address)) ds
 
-        depth-more : length k.digits ≡ deepest P.real (Placed (NumberOf m.order)) G (length f.digits) (w.others ++ name_of t f b ∷ [])
+        depth-more : length k.digits ≡ deepest P.real (Placed (NumberOf m.order)) G (length f.digits) (w.others ++ corner_name t f b ∷ [])
         depth-more = sym next.1 ∙ ap (λ n. max n (level_in F (lifted_in F (address_of b.tile.addr)))) w.depth_is
             ∙ sym (deepest-more (length f.digits) w.others)
 
         within : length k.digits ≤ depth F
         within = omega (arith, both.is_frame.at_most_64, deep m settled fits f is)
 
-        back : (address_of b.tile.addr ≡ whole k → name_of t f b ≡ base) × (name_of t f b ≡ base → address_of b.tile.addr ≡ whole k)
+        back : (address_of b.tile.addr ≡ whole k → corner_name t f b ≡ base) × (corner_name t f b ≡ base → address_of b.tile.addr ≡ whole k)
         back =
             let grown = level-grown m settled fits f is k both in
             let own = level-own m settled fits f is in
@@ -223,8 +223,8 @@ module _ (m : Rule) (settled : IsSettled m) (fits : StillFits (children (tiling_
               λ e. law.1 (e ∙ ap (λ a. corner_named P T.rule F a i) (sym own)) ∙ grown,
             )
 
-        found-on : (n : ℕ) → length corners ≤ n → AllByRecursion (IsFound t k n) corners
-        found-on n le = AllByRecursion-each (IsFound t g (length corners)) (IsFound t k n) corners
+        found-on : (n : ℕ) → length corners ≤ n → AllByRecursion (IsFoundInTurn t k n) corners
+        found-on n le = AllByRecursion-each (IsFoundInTurn t g (length corners)) (IsFoundInTurn t k n) corners
             (λ c. found-later m settled fits L g now k h (length corners) n le c) w.found
 
         -- ---- the base: the turn is at its end
@@ -247,27 +247,27 @@ module _ (m : Rule) (settled : IsSettled m) (fits : StillFits (children (tiling_
 
         -- ---- another tile
         module _ (other : address_of b.tile.addr ≡ whole k → ⊥) where
-          new : name_of t f b ≡ base → ⊥
+          new : corner_name t f b ≡ base → ⊥
           new e = other (back.1 e)
 
-          length-more : (ds : List (CornerOf t)) → length (ds ++ name_of t f b ∷ []) ≡ suc (length ds)
+          length-more : (ds : List (CornerOf t)) → length (ds ++ corner_name t f b ∷ []) ≡ suc (length ds)
           length-more [] = refl
           length-more (d ∷ ds) = ap suc (length-more ds)
 
           count-is : length (base ∷ w.others) ≡ length corners
-          count-is = ap length (sym w.names_are) ∙ length-map corners (name_of t f)
+          count-is = ap length (sym w.names_are) ∙ length-map corners (corner_name t f)
 
           pub stepped : IsOnTheWay t f k i (corners ++ b ∷ []) b
           stepped = record {
             grows = both;
-            found = AllByRecursion-append (IsFound t k (length (corners ++ b ∷ []))) corners (b ∷ [])
+            found = AllByRecursion-append (IsFoundInTurn t k (length (corners ++ b ∷ []))) corners (b ∷ [])
                 (found-on (length (corners ++ b ∷ [])) longer) (b-found, tt);
             last_found = b-found;
-            others = w.others ++ name_of t f b ∷ [];
-            names_are = map-append (name_of t f) corners (b ∷ []) ∙ ap (λ cs. cs ++ name_of t f b ∷ []) w.names_are;
-            last_is = sym (last-more P.real L.points.of_real L.points.of_order G simple v base w.others (name_of t f b));
+            others = w.others ++ corner_name t f b ∷ [];
+            names_are = map-append (corner_name t f) corners (b ∷ []) ∙ ap (λ cs. cs ++ corner_name t f b ∷ []) w.names_are;
+            last_is = sym (last-more P.real L.points.of_real L.points.of_order G simple v base w.others (corner_name t f b));
             in_order = turned;
-            not_back = λ j. at_case (among-append base w.others (name_of t f b ∷ []) j);
+            not_back = λ j. at_case (among-append base w.others (corner_name t f b ∷ []) j);
             depth_is = depth-more;
           }
             where
@@ -277,32 +277,33 @@ module _ (m : Rule) (settled : IsSettled m) (fits : StillFits (children (tiling_
               longer : length corners ≤ length (corners ++ b ∷ [])
               longer = omega (arith, one_more)
 
-              b-found : IsFound t k (length (corners ++ b ∷ [])) b
-              b-found = subst (λ n. IsFound t k n b) (sym one_more)
+              b-found : IsFoundInTurn t k (length (corners ++ b ∷ [])) b
+              b-found = subst (λ n. IsFoundInTurn t k n b) (sym one_more)
                   (next-found m settled fits L g now k h last b (length corners) w.last_found edge-below x)
 
-              at_case : IsAmong base w.others ⊎ IsAmong base (name_of t f b ∷ []) → ⊥
+              at_case : IsAmong base w.others ⊎ IsAmong base (corner_name t f b ∷ []) → ⊥
               at_case (inl j) = absurd (w.not_back j)
               at_case (inr (inl e)) = new (sym e)
               at_case (inr (inr j)) = elim j [ ]
 
           -- ---- one tile too many
           abbrev many : List (CornerOf t)
-          many = base ∷ w.others ++ name_of t f b ∷ []
+          many = base ∷ w.others ++ corner_name t f b ∷ []
 
-          counted : AreDistinct (tiles_of many) × AllByRecursion AtF many
-          counted = L.count G simple v base base-at.0 w.others w.in_order (λ j. absurd (w.not_back j)) (name_of t f b) next.0 (λ e. absurd (new e))
+          counted : AreDistinct (corner_tiles many) × AllByRecursion AtF many
+          counted = L.count G simple v base base-at.0 w.others w.in_order (λ j. absurd (w.not_back j)) (corner_name t f b) next.0
+              (λ e. absurd (new e))
 
           levels : (c : CornerOf t) → IsAmong c many → level_in F c.tile.address ≤ length k.digits
           levels c (inl e) =
               subst (λ (d : CornerOf t). level_in F d.tile.address ≤ length k.digits) (sym e) (omega (arith, base-at.1, both.no_shallower))
           levels c (inr j) = subst (λ n. level_in F c.tile.address ≤ n) (sym depth-more)
-              (each-level P.real L.points.of_real L.points.of_order G (length f.digits) (w.others ++ name_of t f b ∷ []) c j)
+              (each-level P.real L.points.of_real L.points.of_order G (length f.digits) (w.others ++ corner_name t f b ∷ []) c j)
 
           long : length corners ≡ 64 → length many ≡ 65
           long full = ap suc (length-more w.others) ∙ ap suc (count-is ∙ full)
 
-          pub too_big : length corners ≡ 64 → HasCause t k i TooBig
+          pub too_big : length corners ≡ 64 → HasStarCause t k i TooBig
           too_big full =
               let fine = L.corners T F (names m settled fits f is) (is_refused m.order) v (length k.digits) within many counted.0
               (AllByRecursion-from _ many (λ c j. (AllByRecursion-among AtF c many j counted.1, levels c j))) in
@@ -314,7 +315,7 @@ module _ (m : Rule) (settled : IsSettled m) (fits : StillFits (children (tiling_
                     (plane_point P (vertex_at P T.rule a.kind i)) fine.0) (sym both.same_base) fine.2);
               }
 
-          pub not_too_big : length corners ≡ 64 → IsWithinLimits t f i → ⊥
+          pub not_too_big : length corners ≡ 64 → IsStarWithinLimits t f i → ⊥
           not_too_big full limits = let few = limits.few many
               (record { distinct = counted.0; each = counted.1 }) in absurd (omega (arith, few, long full))
 
@@ -333,7 +334,7 @@ module _ (m : Rule) (settled : IsSettled m) (fits : StillFits (children (tiling_
           (boundary-part m fits g a now w.last_found.of_frame settled (its_edge t last) edge-below
           (at_depth t 64 g) (later t g 64 now now.at_most_64 (omega arith)) on)
 
-      pub not_limited : IsWithinLimits t f i → ⊥
+      pub not_limited : IsStarWithinLimits t f i → ⊥
       not_limited limits =
           let d = deep m settled fits f is in
           let enough = (L.off T F (names m settled fits f is) (is_refused m.order) v 64 (omega (arith, d))).1 limits.enough in
@@ -341,15 +342,15 @@ module _ (m : Rule) (settled : IsSettled m) (fits : StillFits (children (tiling_
           (subst (λ n. IsEnoughAt P.real (Placed (NumberOf m.order)) G v n) (sym d) enough))
 
       pub limited : (addr : program.Address) (edge : ℕ) → address_of addr ≡ lifted_at t g a 64
-          → edge ≡ its_edge t last → HasCause t k i (DepthLimit addr edge)
+          → edge ≡ its_edge t last → HasStarCause t k i (DepthLimit addr edge)
       limited addr edge named same-edge = record {
         at_64 = at_64;
-        corner = name_of t f last;
+        corner = corner_name t f last;
         its_address = sym (named ∙ ap (λ y. lifted_in y a) same);
         at_vertex = subst (λ y. IsCornerAt P.real (Placed (NumberOf m.order)) (frame_patch P T.rule y)
-            (vertex_of_base t k i) (name_of t f last)) whole-is
+            (vertex_of_base t k i) (corner_name t f last)) whole-is
             (subst (λ (y : Address). IsCornerAt P.real (Placed (NumberOf m.order)) (frame_patch P T.rule F)
-            (plane_point P (vertex_at P T.rule y.kind i)) (name_of t f last)) (sym both.same_base)
+            (plane_point P (vertex_at P T.rule y.kind i)) (corner_name t f last)) (sym both.same_base)
             last-at);
         its_edge = same-edge;
         on_boundary = subst (IsBoundaryEdge t (address_of addr)) (sym same-edge) (subst (λ y. IsBoundaryEdge t y (its_edge t last)) (sym named) on);

@@ -13,7 +13,7 @@ use Rattle.theory_stars.specs.FrameStar.{AreAtVertex}
 use Rattle.star_walk.specs.declared.star_fault.StarFault.{StarFault}
 use Rattle.star_walk.specs.declared.star_fault.StarFault.TheVariants.{DepthLimit, TooBig}
 use Rattle.star_walk.specs.Corners.{CornerOf, vertex_of_base, IsAtVertex}
-use Rattle.star_walk.specs.Round.{IsEnough}
+use Rattle.star_walk.specs.Round.{IsEnoughForVertex}
 
 -- the most tiles that a star may have
 abbrev pub most_corners : ℕ
@@ -21,7 +21,7 @@ most_corners = 64
 
 -- The frame is at depth 64. The tile has vertex i of the base as a vertex, and its edge that ends there is on
 -- the boundary of the frame's supertile.
-pub record IsDepthLimit (t : Tiling) (f : FrameValue) (i : ℕ) (addr : Address) (edge : ℕ) : Type 0 where
+pub record IsStarDepthLimit (t : Tiling) (f : FrameValue) (i : ℕ) (addr : Address) (edge : ℕ) : Type 0 where
   pub at_64 : length f.digits ≡ 64
   pub corner : CornerOf t
   pub its_address : corner.tile.address ≡ address_of addr
@@ -30,17 +30,19 @@ pub record IsDepthLimit (t : Tiling) (f : FrameValue) (i : ℕ) (addr : Address)
   pub on_boundary : IsBoundaryEdge t (address_of addr) edge
 
 -- there are 65 distinct tiles of the frame that have vertex i of the base as a vertex
-pub record AreTooMany (t : Tiling) (f : FrameValue) (i : ℕ) : Type 0 where
+pub record AreTooManyAround (t : Tiling) (f : FrameValue) (i : ℕ) : Type 0 where
   pub corners : List (CornerOf t)
   pub count : length corners ≡ suc most_corners
   pub at_vertex : AreAtVertex (points_of t.order) t.rule (whole f) (vertex_of_base t f i) corners
 
 -- the cause of each fault
-abbrev pub HasCause : Tiling → FrameValue → ℕ → StarFault → Type 0
-HasCause t f i (DepthLimit addr edge) = IsDepthLimit t f i addr edge
-HasCause t f i TooBig = AreTooMany t f i
+abbrev pub HasStarCause : Tiling → FrameValue → ℕ → StarFault → Type 0
+HasStarCause t f i (DepthLimit addr edge) = IsStarDepthLimit t f i addr edge
+HasStarCause t f i TooBig = AreTooManyAround t f i
 
 -- depth 64 is enough for vertex i of the base, and at most 64 tiles have it there
-pub record IsWithinLimits (t : Tiling) (f : FrameValue) (i : ℕ) : Type 0 where
-  pub enough : IsEnough t f i 64
-  pub few : (corners : List (CornerOf t)) → AreAtVertex (points_of t.order) t.rule (full t f) (vertex_of_base t f i) corners → length corners ≤ most_corners
+pub record IsStarWithinLimits (t : Tiling) (f : FrameValue) (i : ℕ) : Type 0 where
+  pub enough : IsEnoughForVertex t f i 64
+  pub few : (corners : List (CornerOf t))
+      → AreAtVertex (points_of t.order) t.rule (full t f) (vertex_of_base t f i) corners
+      → length corners ≤ most_corners

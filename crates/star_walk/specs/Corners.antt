@@ -34,4 +34,5 @@ vertex_of_base t f i = plane_point (points_of t.order) (vertex (points_of t.orde
 -- the corner is of a tile of the frame, at the frame's own depth, and lies at vertex number i of the base
 abbrev pub IsAtVertex : (t : Tiling) → FrameValue → ℕ → CornerOf t → Type 0
 IsAtVertex t f i c =
-    IsCornerAt (points_of t.order).real (Placed (NumberOf t.order)) (frame_patch (points_of t.order) t.rule (whole f)) (vertex_of_base t f i) c
+    IsCornerAt (points_of t.order).real (Placed (NumberOf t.order))
+    (frame_patch (points_of t.order) t.rule (whole f)) (vertex_of_base t f i) c

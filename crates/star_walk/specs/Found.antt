@@ -25,10 +25,11 @@ abbrev pub its_edge : Tiling → Corner → ℕ
 its_edge t c = edge_into (edge_count t.rule c.tile.addr.kind) c.vertex
 
 -- the tile is of the frame, in its place there, and at most n steps from the base
-pub record IsFound (t : Tiling) (f : FrameValue) (n : ℕ) (c : Corner) : Type 0 where
+pub record IsFoundInTurn (t : Tiling) (f : FrameValue) (n : ℕ) (c : Corner) : Type 0 where
   pub its_kind : c.tile.kind ≡ c.tile.addr.kind
   pub of_frame : IsTileOf (children t) (whole f) (address_of c.tile.addr)
-  pub motion_is : motion_in t.order c.tile.motion ≡ (in_frame (points_of t.order) t.rule (full t f) (address_of c.tile.addr)).motion
+  pub motion_is : motion_in t.order c.tile.motion
+      ≡ (in_frame (points_of t.order) t.rule (full t f) (address_of c.tile.addr)).motion
   pub turn_below : c.tile.motion.turn < (points_of t.order).order
   pub shift_within : IsWithin (2 ^ 8 * n) c.tile.motion.shift
   pub in_order : IsOf t.order c.tile.motion.shift
@@ -36,25 +37,28 @@ pub record IsFound (t : Tiling) (f : FrameValue) (n : ℕ) (c : Corner) : Type 0
 -- the greatest of the frame's depth and the levels of the corners' tiles
 abbrev pub deepest_of : (t : Tiling) → FrameValue → List (CornerOf t) → ℕ
 deepest_of t f corners =
-    deepest (points_of t.order).real (Placed (NumberOf t.order)) (growing_frame (points_of t.order) (is_refused t.order) t.rule (full t f)) (length f.digits) corners
+    deepest (points_of t.order).real (Placed (NumberOf t.order))
+    (growing_frame (points_of t.order) (is_refused t.order) t.rule (full t f)) (length f.digits) corners
 
 -- a corner, by the name that its tile has at depth 64; and that of the base, with its vertex i
-abbrev pub name_of : (t : Tiling) → FrameValue → Corner → CornerOf t
-name_of t f c = corner_named (points_of t.order) t.rule (full t f) (address_of c.tile.addr) c.vertex
+abbrev pub corner_name : (t : Tiling) → FrameValue → Corner → CornerOf t
+corner_name t f c = corner_named (points_of t.order) t.rule (full t f) (address_of c.tile.addr) c.vertex
 
 abbrev pub base_name : (t : Tiling) → FrameValue → ℕ → CornerOf t
 base_name t f i = corner_named (points_of t.order) t.rule (full t f) (whole f) i
 
 -- The frame has grown from f to g. The corners are a turn from the base that has not come back, and this is
 -- the last of them.
-pub record IsOnTheWay (t : Tiling) (f g : FrameValue) (i : ℕ) (corners : List Corner) (last : Corner) : Type 0 where
+pub record IsOnTheWay (t : Tiling) (f g : FrameValue) (i : ℕ) (corners : List Corner)
+    (last : Corner) : Type 0 where
   pub grows : GrowsTo t f g
-  pub found : AllByRecursion (IsFound t g (length corners)) corners
-  pub last_found : IsFound t g (length corners) last
+  pub found : AllByRecursion (IsFoundInTurn t g (length corners)) corners
+  pub last_found : IsFoundInTurn t g (length corners) last
   pub others : List (CornerOf t)
-  pub names_are : map (name_of t f) corners ≡ base_name t f i ∷ others
-  pub last_is : name_of t f last ≡ last_corner (base_name t f i) others
-  pub in_order : Turns (points_of t.order).real (Placed (NumberOf t.order)) (frame_patch (points_of t.order) t.rule (full t f)) (base_name t f i) others
+  pub names_are : map (corner_name t f) corners ≡ base_name t f i ∷ others
+  pub last_is : corner_name t f last ≡ last_corner (base_name t f i) others
+  pub in_order : Turns (points_of t.order).real (Placed (NumberOf t.order))
+      (frame_patch (points_of t.order) t.rule (full t f)) (base_name t f i) others
   pub not_back : ¬ IsAmong (base_name t f i) others
   pub depth_is : length g.digits ≡ deepest_of t f others
 
@@ -62,10 +66,11 @@ pub record IsOnTheWay (t : Tiling) (f g : FrameValue) (i : ℕ) (corners : List 
 pub record HasTurned (t : Tiling) (f g : FrameValue) (i : ℕ) (corners : List Corner) : Type 0 where
   pub grows : GrowsTo t f g
   pub few : length corners ≤ most_corners
-  pub found : AllByRecursion (IsFound t g most_corners) corners
+  pub found : AllByRecursion (IsFoundInTurn t g most_corners) corners
   pub others : List (CornerOf t)
-  pub names_are : map (name_of t f) corners ≡ base_name t f i ∷ others
-  pub turn : IsTurn (points_of t.order).real (Placed (NumberOf t.order)) (frame_patch (points_of t.order) t.rule (full t f)) (base_name t f i) others
+  pub names_are : map (corner_name t f) corners ≡ base_name t f i ∷ others
+  pub turn : IsTurn (points_of t.order).real (Placed (NumberOf t.order))
+      (frame_patch (points_of t.order) t.rule (full t f)) (base_name t f i) others
   pub depth_is : length g.digits ≡ deepest_of t f others
 
 -- the corner b is the corner a with its tile lifted in the frame

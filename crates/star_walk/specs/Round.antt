@@ -19,7 +19,8 @@ use Rattle.star_walk.specs.Corners.{CornerOf, vertex_of_base}
 -- each exactly once and with the vertex's number there
 abbrev pub AreRound : (t : Tiling) → FrameValue → ℕ → List (CornerOf t) → Type 0
 AreRound t f i corners =
-    IsRound (points_of t.order).real (Placed (NumberOf t.order)) (frame_patch (points_of t.order) t.rule (whole f)) (vertex_of_base t f i) corners
+    IsRound (points_of t.order).real (Placed (NumberOf t.order))
+    (frame_patch (points_of t.order) t.rule (whole f)) (vertex_of_base t f i) corners
 
 -- The first is the base with its vertex i. Each further one lies across the edge of the previous one that
 -- ends at the vertex. The base lies across that edge of the last one, for the first time.
@@ -29,7 +30,8 @@ pub record AreInTurn (t : Tiling) (f : FrameValue) (i : ℕ) (corners : List (Co
   pub are : corners ≡ base ∷ others
   pub base_named : base.tile.address ≡ whole f
   pub base_vertex : base.vertex ≡ i
-  pub turn : IsTurn (points_of t.order).real (Placed (NumberOf t.order)) (frame_patch (points_of t.order) t.rule (whole f)) base others
+  pub turn : IsTurn (points_of t.order).real (Placed (NumberOf t.order))
+      (frame_patch (points_of t.order) t.rule (whole f)) base others
 
 -- each corner is of a tile in its place in the frame, and no coefficient of its shift is above 2^24
 pub record AreInPlace (t : Tiling) (f : FrameValue) (corners : List Corner) : Type 0 where
@@ -37,9 +39,10 @@ pub record AreInPlace (t : Tiling) (f : FrameValue) (corners : List Corner) : Ty
   pub shifts_within : All (λ (c : Corner). IsWithin (2 ^ 24) c.tile.motion.shift) corners
 
 -- vertex i of the base is on no edge of the frame's polygon at depth n, which is at most 64
-abbrev pub IsEnough : Tiling → FrameValue → ℕ → ℕ → Type 0
-IsEnough t f i n = IsOffFrame (points_of t.order) t.rule (full t f) (vertex_of_base t f i) n
+abbrev pub IsEnoughForVertex : Tiling → FrameValue → ℕ → ℕ → Type 0
+IsEnoughForVertex t f i n = IsOffFrame (points_of t.order) t.rule (full t f) (vertex_of_base t f i) n
 
 -- n is the least such depth, from that of the frame to 64
-abbrev pub IsLeastEnough : Tiling → FrameValue → ℕ → ℕ → Type 0
-IsLeastEnough t f i n = IsLeastOff (points_of t.order) t.rule (full t f) (vertex_of_base t f i) (length f.digits) n
+abbrev pub IsLeastForVertex : Tiling → FrameValue → ℕ → ℕ → Type 0
+IsLeastForVertex t f i n =
+    IsLeastOff (points_of t.order) t.rule (full t f) (vertex_of_base t f i) (length f.digits) n

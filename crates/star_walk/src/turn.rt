@@ -6,8 +6,8 @@ ghost use Rattle.tile_shape.specs.Views.{address_of};
 ghost use Rattle.rule_model.specs.Tiling.{tiling_of};
 ghost use Rattle.theory_walks.specs.Frames.{whole, GrowsTo};
 ghost use Rattle.star_walk.specs.Corners.{corner_in, HasVertex};
-ghost use Rattle.star_walk.specs.Round.{AreRound, AreInTurn, AreInPlace, IsLeastEnough};
-ghost use Rattle.star_walk.specs.Causes.{HasCause, IsWithinLimits};
+ghost use Rattle.star_walk.specs.Round.{AreRound, AreInTurn, AreInPlace, IsLeastForVertex};
+ghost use Rattle.star_walk.specs.Causes.{HasStarCause, IsStarWithinLimits};
 ghost use Rattle.star_walk.specs.Found.{HasTurned, IsRaised};
 
 use crate::corner::Corner;
@@ -50,7 +50,7 @@ impl Star {
         ensures frame { GrowsTo (tiling_of machine.now) frame.old frame.new }
 
         // The frame is never deeper than is enough for the vertex, whatever is returned.
-        ensures not_beyond { (n : ℕ) → IsLeastEnough (tiling_of machine.now) frame.old vertex n
+        ensures not_beyond { (n : ℕ) → IsLeastForVertex (tiling_of machine.now) frame.old vertex n
             → length frame.new.digits ≤ n }
 
         // Exactly the tiles of the frame that have the vertex, each exactly once and in its place, with the
@@ -60,14 +60,14 @@ impl Star {
         ensures turning { OnOk result (AreInTurn (tiling_of machine.now) frame.new vertex
             (map (corner_in machine.now.order) self.new.corners.items)) }
         ensures stand { OnOk result (AreInPlace (tiling_of machine.now) frame.new self.new.corners.items) }
-        ensures least { OnOk result (IsLeastEnough (tiling_of machine.now) frame.old vertex
+        ensures least { OnOk result (IsLeastForVertex (tiling_of machine.now) frame.old vertex
             (length frame.new.digits)) }
 
         // The call succeeds if and only if depth 64 is enough and at most 64 tiles have the vertex there.
         // Each error comes only for its cause, and leaves no tile.
-        ensures within { OnOk result (IsWithinLimits (tiling_of machine.now) frame.old vertex) }
-        ensures cause { IfErr result (λ fault. HasCause (tiling_of machine.now) frame.new vertex fault) }
-        ensures answered { IsWithinLimits (tiling_of machine.now) frame.old vertex → IsOk result }
+        ensures within { OnOk result (IsStarWithinLimits (tiling_of machine.now) frame.old vertex) }
+        ensures cause { IfErr result (λ fault. HasStarCause (tiling_of machine.now) frame.new vertex fault) }
+        ensures answered { IsStarWithinLimits (tiling_of machine.now) frame.old vertex → IsOk result }
         ensures none_refused { OnErr result (self.new.corners.items ≡ []) }
     {
         let checked = machine.checked();
@@ -100,7 +100,7 @@ pub fn star<L: Ledger>(
     ensures frame { GrowsTo (tiling_of machine.now) frame.old frame.new }
 
     // The frame is never deeper than is enough for the vertex, whatever is returned.
-    ensures not_beyond { (n : ℕ) → IsLeastEnough (tiling_of machine.now) frame.old vertex n
+    ensures not_beyond { (n : ℕ) → IsLeastForVertex (tiling_of machine.now) frame.old vertex n
         → length frame.new.digits ≤ n }
 
     // Exactly the tiles of the frame that have the vertex, each exactly once and in its place, with the
@@ -110,14 +110,14 @@ pub fn star<L: Ledger>(
     ensures turning { IfOk result (λ star. AreInTurn (tiling_of machine.now) frame.new vertex
         (map (corner_in machine.now.order) star.corners.items)) }
     ensures stand { IfOk result (λ star. AreInPlace (tiling_of machine.now) frame.new star.corners.items) }
-    ensures least { OnOk result (IsLeastEnough (tiling_of machine.now) frame.old vertex
+    ensures least { OnOk result (IsLeastForVertex (tiling_of machine.now) frame.old vertex
         (length frame.new.digits)) }
 
     // The call succeeds if and only if depth 64 is enough and at most 64 tiles have the vertex there. Each
     // error comes only for its cause.
-    ensures within { OnOk result (IsWithinLimits (tiling_of machine.now) frame.old vertex) }
-    ensures cause { IfErr result (λ fault. HasCause (tiling_of machine.now) frame.new vertex fault) }
-    ensures answered { IsWithinLimits (tiling_of machine.now) frame.old vertex → IsOk result }
+    ensures within { OnOk result (IsStarWithinLimits (tiling_of machine.now) frame.old vertex) }
+    ensures cause { IfErr result (λ fault. HasStarCause (tiling_of machine.now) frame.new vertex fault) }
+    ensures answered { IsStarWithinLimits (tiling_of machine.now) frame.old vertex → IsOk result }
 {
     let mut star = Star::new();
     star.find(machine, frame, vertex, steps)?;
@@ -136,12 +136,12 @@ fn turn<L: Ledger>(
     requires none_yet { corners.old.items ≡ [] }
     requires vertex { HasVertex (tiling_of machine.now) frame.old vertex }
     ensures frame { GrowsTo (tiling_of machine.now) frame.old frame.new }
-    ensures not_beyond { (n : ℕ) → IsLeastEnough (tiling_of machine.now) frame.old vertex n
+    ensures not_beyond { (n : ℕ) → IsLeastForVertex (tiling_of machine.now) frame.old vertex n
         → length frame.new.digits ≤ n }
     ensures turned { OnOk result (HasTurned (tiling_of machine.now) frame.old frame.new vertex
         corners.new.items) }
-    ensures cause { IfErr result (λ fault. HasCause (tiling_of machine.now) frame.new vertex fault) }
-    ensures answered { IsWithinLimits (tiling_of machine.now) frame.old vertex → IsOk result }
+    ensures cause { IfErr result (λ fault. HasStarCause (tiling_of machine.now) frame.new vertex fault) }
+    ensures answered { IsStarWithinLimits (tiling_of machine.now) frame.old vertex → IsOk result }
 {
     let checked = machine.checked();
     star_laws(checked.order());

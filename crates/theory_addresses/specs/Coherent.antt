@@ -21,22 +21,28 @@ pub record IsCoherent (t : Tables) : Type 0 where
   -- for each edge
   pub sub_each : length t.subs ≡ length t.mates
   pub contacts_each : (k : ℕ) → length (kind_tables t k).contacts ≡ length (kind_tables t k).children
-  pub contact_each : (k c kind : ℕ) → child_kind_of t k c ≡ Some kind → length (contacts_of t k c) ≡ length (kind_tables t kind).types
-  pub parts_each : (k : ℕ) → k < length t.kinds → length (kind_tables t k).parts ≡ length (kind_tables t k).types
+  pub contact_each : (k c kind : ℕ) → child_kind_of t k c ≡ Some kind
+      → length (contacts_of t k c) ≡ length (kind_tables t kind).types
+  pub parts_each : (k : ℕ) → k < length t.kinds
+      → length (kind_tables t k).parts ≡ length (kind_tables t k).types
   -- the kind of each child exists, and so does each type and each mate
   pub child_exists : (k c kind : ℕ) → child_kind_of t k c ≡ Some kind → kind < length t.kinds
   pub type_exists : (k f ty : ℕ) → type_of t k f ≡ Some ty → ty < length t.mates
   pub mate_exists : (ty m : ℕ) → mate_of t ty ≡ Some m → m < length t.mates
   -- the mate's mate is the type, and the mate's subdivision is the type's reversed, each replaced by its mate
   pub mates_back : (ty m : ℕ) → mate_of t ty ≡ Some m → mate_of t m ≡ Some ty
-  pub mirrored : (ty m : ℕ) → mate_of t ty ≡ Some m → map Some (subs_of t m) ≡ reverse (map (mate_of t) (subs_of t ty))
+  pub mirrored : (ty m : ℕ) → mate_of t ty ≡ Some m
+      → map Some (subs_of t m) ≡ reverse (map (mate_of t) (subs_of t ty))
   -- an inner contact points back, and the two edges' types are mates
-  pub points_back : (k a e b f : ℕ) → contact_of t k a e ≡ Some (inner b f) → contact_of t k b f ≡ Some (inner a e)
+  pub points_back : (k a e b f : ℕ) → contact_of t k a e ≡ Some (inner b f)
+      → contact_of t k b f ≡ Some (inner a e)
   pub mated : (k a e b f ty : ℕ) → contact_of t k a e ≡ Some (inner b f)
       → child_type_of t k (record { child = a; edge = e }) ≡ Some ty
       → child_type_of t k (record { child = b; edge = f }) ≡ mate_of t ty
   -- the contact of a child edge is outer {E, p} if and only if part p of E, which exists, is that child edge
-  pub outer_part : (k c e f p : ℕ) → (contact_of t k c e ≡ Some (outer f p)) ↔ (part_of t k f p ≡ Some (record { child = c; edge = e }))
+  pub outer_part : (k c e f p : ℕ)
+      → (contact_of t k c e ≡ Some (outer f p)) ↔ (part_of t k f p ≡ Some (record { child = c; edge = e }))
   pub outer_edge : (k c e f p : ℕ) → contact_of t k c e ≡ Some (outer f p) → IsSome (type_of t k f)
   -- the parts of an edge have the types of its type's subdivision, in order
-  pub part_types : (k f ty : ℕ) → type_of t k f ≡ Some ty → map (child_type_of t k) (parts_of t k f) ≡ map Some (subs_of t ty)
+  pub part_types : (k f ty : ℕ) → type_of t k f ≡ Some ty
+      → map (child_type_of t k) (parts_of t k f) ≡ map Some (subs_of t ty)

@@ -20,7 +20,8 @@ pub record Tables : Type 0 where
 
 -- the tables of a kind; beyond the last they are empty
 unfoldable pub kind_tables : Tables → ℕ → KindTables
-kind_tables t k = unwrap_or (slice_get t.kinds k) (record { types = []; children = []; contacts = []; parts = [] })
+kind_tables t k = unwrap_or (slice_get t.kinds k)
+    (record { types = []; children = []; contacts = []; parts = [] })
 
 -- the kinds of each kind's children
 abbrev pub child_kinds : Tables → List (List ℕ)

@@ -10,7 +10,7 @@ use Rattle.theory_substitution.specs.RuleParts.{edge_count, child_of}
 use Rattle.theory_edge_to_edge.specs.Edges.{Edge, PlacedEdge, child_edge, lies_along}
 use Rattle.theory_addresses.specs.Search.{IsAmong}
 use Rattle.theory_substitution.specs.Supertile.{Placed, supertile}
-use Rattle.theory_edge_to_edge.specs.Contacts.{name_of, tables_of}
+use Rattle.theory_edge_to_edge.specs.Contacts.{edge_name, tables_of}
 use Rattle.theory_addresses.specs.Tables.{Tables, child_kinds}
 use Rattle.theory_addresses.specs.Trace.{Cut, IsTrace, HasTrace, first_part}
 use Rattle.theory_addresses.proofs.Chains.{chain_of}
@@ -90,7 +90,7 @@ module _ (T : Setting) where
       (plane_point P l.from) (plane_point P l.to) a.among b.among a.edge_exists b.edge_exists
       (on_line s a.line along) (on_line s' b.line along') in
       let child : s.child ≡ s'.child = ap (λ (x : Placed A). (get_or x.address.digits 0 (record { child = 0; parent = 0 })).child) one.0 in
-      let name : name_of s ≡ name_of s' = ap₂ (λ (c : ℕ) (f : ℕ). record { child = c; edge = f }) child one.1 in
+      let name : edge_name s ≡ edge_name s' = ap₂ (λ (c : ℕ) (f : ℕ). record { child = c; edge = f }) child one.1 in
       let same_edge : s ≡ s' = one_named P r k s s' (part_facts T k e p s hk he at).among (part_facts T k e q s' hk he at').among name in
       (part-alone P W r k (D.none_loose k hk) (cut_edges T k) s e p e q (record { edge_below = he; at = at })
       (record { edge_below = he; at = at' ∙ ap Some (sym same_edge) })).1

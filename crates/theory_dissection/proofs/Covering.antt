@@ -13,7 +13,7 @@ use Rattle.theory_addresses.specs.Search.{IsAmong}
 use Rattle.theory_substitution.specs.Supertile.{inflated}
 use Rattle.theory_substitution.specs.Placement.{placement}
 use Rattle.theory_addresses.specs.Contact.{outer}
-use Rattle.theory_edge_to_edge.specs.Contacts.{name_of, tables_of}
+use Rattle.theory_edge_to_edge.specs.Contacts.{edge_name, tables_of}
 use Rattle.theory_addresses.specs.Tables.{Tables, contact_of, part_count}
 use Rattle.theory_addresses.specs.Trace.{Cut, IsTrace, bare, further}
 use Rattle.theory_substitution.proofs.Keeping.{motion-keeps, keeps-then}
@@ -190,7 +190,7 @@ module _ (T : Setting) where
     contact : contact_of t k part.child part.edge ≡ Some (outer top on_part.number)
     contact =
         ((contacts-coherent T).outer_part k part.child part.edge top on_part.number).1
-        (part_of-at P r k top on_part.number he ∙ slice_get-image name_of part ss on_part.number on_part.at)
+        (part_of-at P r k top on_part.number he ∙ slice_get-image edge_name part ss on_part.number on_part.at)
 
     covered-suc : Covered child_kind n part.edge f' on_part.piece.from on_part.piece.to → Covered k (suc n) top f u v
     covered-suc c = record {

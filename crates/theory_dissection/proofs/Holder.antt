@@ -15,7 +15,7 @@ use Rattle.theory_substitution.proofs.Motions.{moved-followed}
 use Rattle.theory_addresses.proofs.Lists.{IsAmong-map, IsAmong-flat_map}
 use Rattle.theory_dissection.specs.Sums.{sum_over}
 use Rattle.theory_dissection.specs.Polygons.{supertile_polygon}
-use Rattle.theory_dissection.specs.Holder.{IsHolder, IsOnlyHolder}
+use Rattle.theory_dissection.specs.Holder.{IsHolder, HoldsAlone}
 use Rattle.theory_dissection.proofs.Setting.{Setting}
 use Rattle.theory_dissection.proofs.Sums.{zero_plus}
 use Rattle.theory_dissection.proofs.SupertileCount.{tile_count, sum-all, count-ext}
@@ -39,7 +39,7 @@ module _ (T : Setting) where
 
   module _ (f : A → A) (keeps : Keeps P f) (p : TestPoint P.real.ops.carrier) (d_pos : IsPositive P.real p.d) where
     pub only_holder : (k n : ℕ) → k < length r.kinds → count P.real (supertile_polygon P r f k n) p ≡ pos 1
-        → (t : Placed A) × IsOnlyHolder P r f k n p t
+        → (t : Placed A) × HoldsAlone P r f k n p t
     only_holder k n hk e =
         let h = some_one (tile_count T p f) (supertile P r k n) (tiles-good T f keeps p d_pos k n hk) (sum-all T p k n hk f keeps ∙ e) in (
           h.0,

@@ -8,7 +8,7 @@ use Rattle.theory_substitution.specs.RuleParts.{mate, edge_count, edge_type, chi
 use Rattle.theory_edge_to_edge.specs.Edges.{Edge, PlacedEdge, inflated_edge, moved_edge, child_edge, child_edges, runs_back, is_opposite}
 use Rattle.theory_substitution.specs.Placement.{placement}
 use Rattle.theory_addresses.specs.Contact.{inner, outer}
-use Rattle.theory_edge_to_edge.specs.Contacts.{name_of, tables_of}
+use Rattle.theory_edge_to_edge.specs.Contacts.{edge_name, tables_of}
 use Rattle.theory_addresses.specs.Tables.{child_kinds, type_of, child_kind_of, contact_of, part_count}
 use Rattle.theory_addresses.specs.Touch.{Touches}
 use Rattle.theory_addresses.proofs.Chains.{IsChain, chain_of}
@@ -84,7 +84,7 @@ module _ (T : Setting) where
 
   part_count-is : (k e : ℕ) → e < edge_count r k → part_count (tables_of P r) k e ≡ length (cut_parts P r k e)
   unfolding part_count
-  part_count-is k e h = ap (λ l. length l) (parts_of-at P r k e h) ∙ length-map (cut_parts P r k e) name_of
+  part_count-is k e h = ap (λ l. length l) (parts_of-at P r k e h) ∙ length-map (cut_parts P r k e) edge_name
 
   -- ---- mirrored parts of edges that are opposite
   parts-opposite : (k l e f own other p q : ℕ) (s u : Step) (xs ys : List Step)

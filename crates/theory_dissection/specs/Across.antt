@@ -14,7 +14,8 @@ pub record RunsBack {A : Type 0} (e f : Edge A) : Type 0 where
 
 -- edge f of tile b is across edge e of tile a: the two are different tiles of one supertile, and edge f runs
 -- from the end of e to its start
-pub record IsTileAcross (P : Points) (r : Rule P.ring.carrier) (a : Placed P.ring.carrier) (e : ℕ) (b : Placed P.ring.carrier) (f : ℕ) : Type 0 where
+pub record IsTileAcross (P : Points) (r : Rule P.ring.carrier) (a : Placed P.ring.carrier) (e : ℕ)
+    (b : Placed P.ring.carrier) (f : ℕ) : Type 0 where
   pub own : IsTileBeside P r a.address a
   pub beside : IsTileBeside P r a.address b
   pub other : b.address ≡ a.address → ⊥
@@ -22,7 +23,8 @@ pub record IsTileAcross (P : Points) (r : Rule P.ring.carrier) (a : Placed P.rin
   pub runs_back : RunsBack (edge_of P r a e) (edge_of P r b f)
 
 -- and no other edge of any tile is
-pub record IsOnlyTileAcross (P : Points) (r : Rule P.ring.carrier) (a : Placed P.ring.carrier) (e : ℕ) (b : Placed P.ring.carrier) (f : ℕ) : Type 0 where
+pub record IsOnlyTileAcross (P : Points) (r : Rule P.ring.carrier) (a : Placed P.ring.carrier) (e : ℕ)
+    (b : Placed P.ring.carrier) (f : ℕ) : Type 0 where
   pub across : IsTileAcross P r a e b f
   pub only : (c : Placed P.ring.carrier) (g : ℕ) → IsTileAcross P r a e c g → (c ≡ b) × (g ≡ f)
 

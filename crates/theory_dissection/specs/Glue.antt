@@ -13,7 +13,8 @@ use Rattle.theory_dissection.specs.TileEdges.{kind_edge}
 
 -- a turn by ζ^turn takes the vector of edge f of kind l to that of edge e of kind k, reversed
 abbrev pub TurnsOnto : (P : Points) → Rule P.ring.carrier → ℕ → ℕ → ℕ → ℕ → ℕ → Type 0
-TurnsOnto P r k e l f turn = P.ring.mul (power P.ring P.zeta turn) (edge_vector P r l f) ≡ P.ring.neg (edge_vector P r k e)
+TurnsOnto P r k e l f turn = P.ring.mul (power P.ring P.zeta turn) (edge_vector P r l f)
+    ≡ P.ring.neg (edge_vector P r k e)
 
 -- some turn below the order does: edge f of kind l meets edge e of kind k
 pub record IsMet (P : Points) (r : Rule P.ring.carrier) (k e l f : ℕ) : Type 0 where
@@ -23,16 +24,20 @@ pub record IsMet (P : Points) (r : Rule P.ring.carrier) (k e l f : ℕ) : Type 0
 
 -- the motion brings edge f of kind l onto the reverse of edge e of kind k: moved by it, the edge runs from
 -- the end of e to its start
-pub record IsGlueMotion (P : Points) (r : Rule P.ring.carrier) (k e l f : ℕ) (m : Motion P.ring.carrier) : Type 0 where
+pub record IsGlueMotion (P : Points) (r : Rule P.ring.carrier) (k e l f : ℕ)
+    (m : Motion P.ring.carrier) : Type 0 where
   pub below : m.turn < P.order
   pub runs_back : RunsBack (kind_edge P r k e) (moved_edge P r l m f)
 
 -- edge f of tile b meets edge e of tile a; at most one motion glues the two edges; and the motion of b is
 -- that motion, followed by the motion of a
-pub record IsGlued (P : Points) (r : Rule P.ring.carrier) (a : Placed P.ring.carrier) (e : ℕ) (b : Placed P.ring.carrier) (f : ℕ) : Type 0 where
+pub record IsGlued (P : Points) (r : Rule P.ring.carrier) (a : Placed P.ring.carrier) (e : ℕ)
+    (b : Placed P.ring.carrier) (f : ℕ) : Type 0 where
   pub met : IsMet P r a.address.kind e b.address.kind f
-  pub alone : (m g : Motion P.ring.carrier) → IsGlueMotion P r a.address.kind e b.address.kind f m → IsGlueMotion P r a.address.kind e b.address.kind f g → m ≡ g
-  pub motion_is : (m : Motion P.ring.carrier) → IsGlueMotion P r a.address.kind e b.address.kind f m → b.motion ≡ followed P m a.motion
+  pub alone : (m g : Motion P.ring.carrier) → IsGlueMotion P r a.address.kind e b.address.kind f m
+      → IsGlueMotion P r a.address.kind e b.address.kind f g → m ≡ g
+  pub motion_is : (m : Motion P.ring.carrier) → IsGlueMotion P r a.address.kind e b.address.kind f m
+      → b.motion ≡ followed P m a.motion
 
 -- the turns below the order are different
 abbrev pub TurnsDiffer : Points → Type 0
@@ -40,4 +45,5 @@ TurnsDiffer P = (i j : ℕ) → i < P.order → j < P.order → power P.ring P.z
 
 -- the same as a test that computes
 abbrev pub turns_differ : Points → Bool
-turns_differ P = all_below P.order (λ i. all_below P.order (λ j. not (P.same (power P.ring P.zeta i) (power P.ring P.zeta j)) || nat_eq i j))
+turns_differ P = all_below P.order
+    (λ i. all_below P.order (λ j. not (P.same (power P.ring P.zeta i) (power P.ring P.zeta j)) || nat_eq i j))

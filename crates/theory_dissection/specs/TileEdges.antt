@@ -24,14 +24,18 @@ edge_of P r t e = moved_edge P r t.address.kind t.motion e
 
 -- a line multiplied by the n-th power of the factor
 abbrev pub inflated_line : (P : Points) → Rule P.ring.carrier → ℕ → Edge P.ring.carrier → Edge P.ring.carrier
-inflated_line P r n e = record { from = P.ring.mul (power P.ring r.factor n) e.from; to = P.ring.mul (power P.ring r.factor n) e.to }
+inflated_line P r n e = record {
+  from = P.ring.mul (power P.ring r.factor n) e.from;
+  to = P.ring.mul (power P.ring r.factor n) e.to;
+}
 
 -- edge number e of the prototile of kind k
 abbrev pub kind_edge : (P : Points) → Rule P.ring.carrier → ℕ → ℕ → Edge P.ring.carrier
 kind_edge P r k e = record { from = vertex P r k e; to = vertex P r k (next r k e) }
 
 -- an edge, moved by f
-abbrev pub image_of : (P : Points) → (P.ring.carrier → P.ring.carrier) → Edge P.ring.carrier → Edge P.ring.carrier
+abbrev pub image_of : (P : Points) → (P.ring.carrier → P.ring.carrier) → Edge P.ring.carrier
+    → Edge P.ring.carrier
 image_of P f e = record { from = f e.from; to = f e.to }
 
 -- edge number e of the polygon of the supertile of kind k and depth n

@@ -6,7 +6,7 @@ use Rattle.theory_addresses.specs.Search.{IsAmong, below}
 use Rattle.theory_substitution.specs.Rule.{Rule, kind_of, children_of}
 use Rattle.theory_substitution.specs.RuleParts.{edge_count, edge_type, child_of}
 use Rattle.theory_addresses.specs.Contact.{ChildEdge}
-use Rattle.theory_edge_to_edge.specs.Contacts.{name_of}
+use Rattle.theory_edge_to_edge.specs.Contacts.{edge_name}
 use Rattle.theory_edge_to_edge.specs.Edges.{PlacedEdge, child_edge, edges_of_child, child_edges, runs_back, is_opposite}
 use Rattle.theory_addresses.proofs.Lists.{IsAmong-flat_map}
 use Rattle.theory_addresses.proofs.Ranges.{get_or-past, IsAmong-below, among-flat_map, among-below}
@@ -59,7 +59,7 @@ module _ (P : Points) (r : Rule P.ring.carrier) where
       subst (IsChildEdge k) (sym edge.is) (child_edge-is k piece.piece edge.number (record { child_below = small; edge_below = edge.in_range }))
 
   -- a name is that of one child edge
-  pub one_named : (k : ℕ) (s u : PlacedEdge A) → IsAmong s (child_edges P r k) → IsAmong u (child_edges P r k) → name_of s ≡ name_of u → s ≡ u
+  pub one_named : (k : ℕ) (s u : PlacedEdge A) → IsAmong s (child_edges P r k) → IsAmong u (child_edges P r k) → edge_name s ≡ edge_name u → s ≡ u
   one_named k s u i j e =
       let a = among-child_edges k s i in
       let b = among-child_edges k u j in

@@ -8,7 +8,7 @@ use Rattle.theory_edge_to_edge.specs.Numbered.{IsNumbered}
 use Rattle.theory_edge_to_edge.specs.Edition.{Edition}
 use Rattle.theory_edge_to_edge.specs.EdgeToEdge.{IsEdgeToEdge}
 use Rattle.theory_addresses.specs.Contact.{Contact, ChildEdge, inner, outer}
-use Rattle.theory_edge_to_edge.specs.Contacts.{name_of, contact_by, tables_of}
+use Rattle.theory_edge_to_edge.specs.Contacts.{edge_name, contact_by, tables_of}
 use Rattle.theory_edge_to_edge.specs.Edges.{PlacedEdge, child_edge, child_edges}
 use Rattle.theory_edge_to_edge.specs.Boundary.{parts_of_edge}
 use Rattle.theory_addresses.specs.Tables.{Tables, type_of, contact_of, part_of, mate_of, child_type_of}
@@ -64,7 +64,7 @@ module _ (P : Points) (W : PointLaws P) (edition : Edition) (refused : P.ring.ca
       let back = inner_other k a e b f h in
       let other = named P r k b f back.other back.among back.child back.edge in
       contact_of-at P r k b f other.has ∙ ap (λ (s : PlacedEdge A). Some (contact_at P r k s)) (sym other.is)
-      ∙ ap (λ l. Some (contact_by P r k (name_of back.other) l)) back.back
+      ∙ ap (λ l. Some (contact_by P r k (edge_name back.other) l)) back.back
 
   is-mated : (k a e b f ty : ℕ) → contact_of t k a e ≡ Some (inner b f) → child_type_of t k (record { child = a; edge = e }) ≡ Some ty
       → child_type_of t k (record { child = b; edge = f }) ≡ mate_of t ty
@@ -88,12 +88,12 @@ module _ (P : Points) (W : PointLaws P) (edition : Edition) (refused : P.ring.ca
   outer-part : (k c e f p : ℕ) → contact_of t k c e ≡ Some (outer f p) → part_of t k f p ≡ Some (record { child = c; edge = e })
   outer-part k c e f p h =
       let part = part-from k c e f p h in
-      part_of-at P r k f p part.edge_below ∙ slice_get-image name_of (child_edge P r k c e) (cut_parts P r k f) p part.at
+      part_of-at P r k f p part.edge_below ∙ slice_get-image edge_name (child_edge P r k c e) (cut_parts P r k f) p part.at
 
   part-outer : (k c e f p : ℕ) → part_of t k f p ≡ Some (record { child = c; edge = e }) → contact_of t k c e ≡ Some (outer f p)
   part-outer k c e f p h =
       let found = part_of-found P r k f p (record { child = c; edge = e }) h in
-      let image = image-at name_of (record { child = c; edge = e }) (cut_parts P r k f) p found.1 in
+      let image = image-at edge_name (record { child = c; edge = e }) (cut_parts P r k f) p found.1 in
       let part : IsPart P r k image.source f p = record { edge_below = found.0; at = image.at } in
       let in_range = kind-with_edge P r k f found.0 in
       let among = (part-is_child_edge P W r k (D.none_loose k in_range) (cut_edges k) image.source f p part).0 in

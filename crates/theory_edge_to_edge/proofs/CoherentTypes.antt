@@ -11,7 +11,7 @@ use Rattle.theory_substitution.specs.RuleParts.{mate, parts, edge_count, child_o
 use Rattle.theory_edge_to_edge.specs.Numbered.{IsNumbered}
 use Rattle.theory_edge_to_edge.specs.Edition.{Edition}
 use Rattle.theory_edge_to_edge.specs.EdgeToEdge.{IsEdgeToEdge}
-use Rattle.theory_edge_to_edge.specs.Contacts.{name_of, named_parts, contacts_of_child, tables_of}
+use Rattle.theory_edge_to_edge.specs.Contacts.{edge_name, named_parts, contacts_of_child, tables_of}
 use Rattle.theory_edge_to_edge.specs.Edges.{PlacedEdge, child_edge, edges_of_child, child_edges}
 use Rattle.theory_addresses.specs.Tables.{Tables, kind_tables, type_of, child_kind_of, contacts_of, parts_of, mate_of, subs_of, child_type_of}
 use Rattle.theory_addresses.proofs.Lists.{map-reverse}
@@ -123,7 +123,7 @@ module _ (P : Points) (W : PointLaws P) (edition : Edition) (refused : P.ring.ca
       below_kinds kind (subst (λ (u : ℕ). u < length r.kinds) (sym found.1) (N.child_exists k c (kind-with_child P r k c found.0) found.0))
 
   -- the type of a child edge by its name
-  pub type-of_name : (k : ℕ) (s : PlacedEdge A) → IsAmong s (child_edges P r k) → child_type_of t k (name_of s) ≡ Some s.type
+  pub type-of_name : (k : ℕ) (s : PlacedEdge A) → IsAmong s (child_edges P r k) → child_type_of t k (edge_name s) ≡ Some s.type
   type-of_name k s i =
       let is = among-child_edges P r k s i in
       child_type_of-at P r k s.child s.edge is.has ∙ ap Some (sym (ap (λ (u : PlacedEdge A). u.type) is.is))
@@ -133,6 +133,6 @@ module _ (P : Points) (W : PointLaws P) (edition : Edition) (refused : P.ring.ca
       let found = type_of-found P r k f ty h in
       let cut = λ (e : ℕ) (lt : e < edge_count r k). D.boundary_cut k e (kind-with_edge P r k e lt) lt in
       ap (map (child_type_of t k)) (parts_of-at P r k f found.0)
-      ∙ map-members (child_type_of t k) name_of Some (λ (s : PlacedEdge A). s.type) (cut_parts P r k f)
+      ∙ map-members (child_type_of t k) edge_name Some (λ (s : PlacedEdge A). s.type) (cut_parts P r k f)
       (λ s i. type-of_name k s (boundary_edge P W r k f s (part-on_boundary P W r k cut f found.0 s i)).0)
       ∙ ap (map Some) (part-types P W r k cut f found.0 ∙ ap (parts r) (sym found.1) ∙ sym (subs_of-is P r ty))

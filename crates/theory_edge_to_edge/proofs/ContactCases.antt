@@ -6,7 +6,7 @@ use Rattle.theory_addresses.specs.Search.{IsAmong}
 use Rattle.theory_substitution.specs.Rule.{Rule}
 use Rattle.theory_substitution.specs.RuleParts.{mate, edge_count}
 use Rattle.theory_addresses.specs.Contact.{ChildEdge, inner, outer}
-use Rattle.theory_edge_to_edge.specs.Contacts.{name_of, named_parts, index_in, contact_by}
+use Rattle.theory_edge_to_edge.specs.Contacts.{edge_name, named_parts, index_in, contact_by}
 use Rattle.theory_edge_to_edge.specs.Edges.{PlacedEdge, inflated_edges, child_edges, is_opposite}
 use Rattle.theory_edge_to_edge.specs.Lying.{Lie, numbers_along, lie_of, is_loose}
 use Rattle.theory_edge_to_edge.specs.Lying as lying
@@ -86,7 +86,7 @@ module _ (P : Points) (W : PointLaws P) (r : Rule P.ring.carrier) (k : ℕ) wher
     -- ---- outer child edges
     -- a child edge on the boundary is the part of its number
     pub boundary-is_part : (s : PlacedEdge A) (e : ℕ) → IsAmong s edges → lie_of P r k s ≡ lying.boundary e
-        → IsPart P r k s e (index_in (name_of s) 0 (named_parts P r k e))
+        → IsPart P r k s e (index_in (edge_name s) 0 (named_parts P r k e))
     boundary-is_part s e i h =
         let below = (lie_of-boundary P r k s e h).edge_below in
         let place = among-place s (cut_parts P r k e) (on_boundary-part P W r k cut e below s (boundary_edge-among P W r k e s i h)) in
@@ -106,7 +106,7 @@ module _ (P : Points) (W : PointLaws P) (r : Rule P.ring.carrier) (k : ℕ) wher
         let same : e ≡ f = let a = (part-is_child_edge s e p h).1 in let b = (part-is_child_edge s f q g).1 in cc in
         let number = part-number P W r k cut e p s h.edge_below h.at in
         let other = part-number P W r k cut f q s g.edge_below g.at in
-        (same, sym number ∙ ap (λ (x : ℕ). index_in (name_of s) 0 (named_parts P r k x)) same ∙ other)
+        (same, sym number ∙ ap (λ (x : ℕ). index_in (edge_name s) 0 (named_parts P r k x)) same ∙ other)
 
     -- ---- each child edge is the one or the other
     pub settled : (s : PlacedEdge A) → IsAmong s edges → Settled P r k s
@@ -114,20 +114,20 @@ module _ (P : Points) (W : PointLaws P) (r : Rule P.ring.carrier) (k : ℕ) wher
       where
         at_lie : (l : Lie) → lie_of P r k s ≡ l → is_loose l ≡ false → Settled P r k s
         at_lie (lying.inner b f) h g = inside b f h (inner-points_back s b f i h)
-        at_lie (lying.boundary e) h g = along e (index_in (name_of s) 0 (named_parts P r k e))
+        at_lie (lying.boundary e) h g = along e (index_in (edge_name s) 0 (named_parts P r k e))
             (lie_of-boundary P r k s e h) (boundary-is_part s e i h)
         at_lie lying.loose h g = absurd cc
 
     -- ---- contacts
     pub contact-inner : (s : PlacedEdge A) (b f : ℕ) → IsAmong s edges → contact_at P r k s ≡ inner b f → PointsBack P r k s b f
-    contact-inner s b f i h = inner-points_back s b f i (contact_by-inner (name_of s) (lie_of P r k s) b f h)
+    contact-inner s b f i h = inner-points_back s b f i (contact_by-inner (edge_name s) (lie_of P r k s) b f h)
 
     pub contact-outer : (s : PlacedEdge A) (f p : ℕ) → IsAmong s edges → contact_at P r k s ≡ outer f p → IsPart P r k s f p
     contact-outer s f p i h =
-        let by = contact_by-outer (name_of s) (lie_of P r k s) f p (firm s i) h in
+        let by = contact_by-outer (edge_name s) (lie_of P r k s) f p (firm s i) h in
         subst (IsPart P r k s f) by.1 (boundary-is_part s f i by.0)
 
     pub part-contact : (s : PlacedEdge A) (f p : ℕ) → IsPart P r k s f p → contact_at P r k s ≡ outer f p
     part-contact s f p h =
         let lies = (part-is_child_edge s f p h).1 in
-        ap (contact_by P r k (name_of s)) lies ∙ ap (outer f) (part-number P W r k cut f p s h.edge_below h.at)
+        ap (contact_by P r k (edge_name s)) lies ∙ ap (outer f) (part-number P W r k cut f p s h.edge_below h.at)

@@ -7,7 +7,7 @@ use Rattle.theory_addresses.specs.Search.{IsAmong}
 use Rattle.theory_substitution.specs.Rule.{Rule}
 use Rattle.theory_substitution.specs.RuleParts.{parts, edge_count, edge_type}
 use Rattle.theory_addresses.specs.Contact.{ChildEdge}
-use Rattle.theory_edge_to_edge.specs.Contacts.{name_of, parts_or_none, named_parts, index_in}
+use Rattle.theory_edge_to_edge.specs.Contacts.{edge_name, parts_or_none, named_parts, index_in}
 use Rattle.theory_edge_to_edge.specs.Edges.{PlacedEdge, inflated_edge, inflated_edges, child_edges}
 use Rattle.theory_edge_to_edge.specs.Lying.{boundary, lie_of, is_along}
 use Rattle.theory_edge_to_edge.specs.Boundary.{boundary_among, parts_of_edge}
@@ -111,11 +111,11 @@ module _ (P : Points) (W : PointLaws P) (r : Rule P.ring.carrier) (k : ℕ) wher
 
     -- ---- the names of the parts
     names-differ : (ss : List (PlacedEdge A)) → ((s : PlacedEdge A) → IsAmong s ss
-        → IsAmong s (child_edges P r k)) → AreApart (from_of P) ss → WithoutRepeats (map name_of ss)
+        → IsAmong s (child_edges P r k)) → AreApart (from_of P) ss → WithoutRepeats (map edge_name ss)
     names-differ [] among apart = tt
     names-differ (s ∷ ss) among apart = (
-      AllByRecursion-map (λ (n : ChildEdge). name_of s ≡ n → ⊥) name_of ss
-          (AllByRecursion-from (λ (u : PlacedEdge A). name_of s ≡ name_of u → ⊥) ss
+      AllByRecursion-map (λ (n : ChildEdge). edge_name s ≡ n → ⊥) edge_name ss
+          (AllByRecursion-from (λ (u : PlacedEdge A). edge_name s ≡ edge_name u → ⊥) ss
           (λ u i e. differs u i (one_named P r k s u (among s (inl refl)) (among u (inr i)) e))),
       names-differ ss (λ u i. among u (inr i)) apart.1,
     )
@@ -129,7 +129,7 @@ module _ (P : Points) (W : PointLaws P) (r : Rule P.ring.carrier) (k : ℕ) wher
 
     -- a part has the number of its place
     pub part-number : (e p : ℕ) (s : PlacedEdge A) → e < edge_count r k
-        → slice_get (cut_parts P r k e) p ≡ Some s → index_in (name_of s) 0 (named_parts P r k e) ≡ p
+        → slice_get (cut_parts P r k e) p ≡ Some s → index_in (edge_name s) 0 (named_parts P r k e) ≡ p
     part-number e p s h at =
-        number_in-at (name_of s) 0 p (map name_of (cut_parts P r k e)) (slice_get-image name_of s (cut_parts P r k e) p at)
+        number_in-at (edge_name s) 0 p (map edge_name (cut_parts P r k e)) (slice_get-image edge_name s (cut_parts P r k e) p at)
         (names-differ (cut_parts P r k e) (λ u i. (boundary_edge e u (part-on_boundary e h u i)).0) (parts-apart e h)) ∙ omega arith

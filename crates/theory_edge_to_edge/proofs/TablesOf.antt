@@ -8,7 +8,7 @@ use Rattle.theory_substitution.specs.Motion.{still}
 use Rattle.theory_substitution.specs.Rule.{Child, EdgeType, Kind, Rule, children_of}
 use Rattle.theory_substitution.specs.RuleParts.{edge_type_of, mate, parts, edge_types, edge_count, edge_type, child_of}
 use Rattle.theory_addresses.specs.Contact.{Contact, ChildEdge}
-use Rattle.theory_edge_to_edge.specs.Contacts.{name_of, named_parts, contact_by, contacts_of_child, tables_of_kind, tables_of}
+use Rattle.theory_edge_to_edge.specs.Contacts.{edge_name, named_parts, contact_by, contacts_of_child, tables_of_kind, tables_of}
 use Rattle.theory_edge_to_edge.specs.Edges.{PlacedEdge, child_edge, edges_of_child}
 use Rattle.theory_edge_to_edge.specs.Lying.{lie_of}
 use Rattle.theory_addresses.specs.Search.{below}
@@ -118,7 +118,7 @@ module _ (P : Points) (r : Rule P.ring.carrier) where
   contacts_of-past k c h = rw (kind_tables-is k, slice_get-below_past (contacts_of_child P r k) (length (children_of r k)) c h) refl
 
   abbrev pub contact_at : ℕ → PlacedEdge A → Contact
-  contact_at k s = contact_by P r k (name_of s) (lie_of P r k s)
+  contact_at k s = contact_by P r k (edge_name s) (lie_of P r k s)
 
   pub contact_of-at : (k c e : ℕ) → HasChildEdge P r k c e → contact_of t k c e ≡ Some (contact_at k (child_edge P r k c e))
   unfolding contact_of

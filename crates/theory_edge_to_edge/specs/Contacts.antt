@@ -11,8 +11,8 @@ use Rattle.theory_edge_to_edge.specs.Boundary.{parts_of_edge}
 use Rattle.theory_addresses.specs.Contact.{Contact, ChildEdge, inner, outer}
 use Rattle.theory_addresses.specs.Tables.{Tables, KindTables}
 
-abbrev pub name_of : {A : Type 0} → PlacedEdge A → ChildEdge
-name_of s = record { child = s.child; edge = s.edge }
+abbrev pub edge_name : {A : Type 0} → PlacedEdge A → ChildEdge
+edge_name s = record { child = s.child; edge = s.edge }
 
 -- the parts, if none fails
 abbrev pub parts_or_none : {A : Type 0} → Result (List A) ℕ → List A
@@ -21,7 +21,7 @@ parts_or_none (Err j) = []
 
 -- the names of the child edges that are the parts of edge number e of kind k, in order
 abbrev pub named_parts : (P : Points) → Rule P.ring.carrier → ℕ → ℕ → List ChildEdge
-named_parts P r k e = map name_of (parts_or_none (parts_of_edge P r k e))
+named_parts P r k e = map edge_name (parts_or_none (parts_of_edge P r k e))
 
 -- the number, from n, of a child edge in a list
 abbrev pub index_in : ChildEdge → ℕ → List ChildEdge → ℕ
@@ -37,7 +37,8 @@ contact_by P r k s lying.loose = outer 0 0
 
 -- what the edges of child number c of kind k are, in order
 abbrev pub contacts_of_child : (P : Points) → Rule P.ring.carrier → ℕ → ℕ → List Contact
-contacts_of_child P r k c = map (λ s. contact_by P r k (name_of s) (lie_of P r k s)) (edges_of_child P r k c)
+contacts_of_child P r k c =
+    map (λ s. contact_by P r k (edge_name s) (lie_of P r k s)) (edges_of_child P r k c)
 
 abbrev pub tables_of_kind : (P : Points) → Rule P.ring.carrier → ℕ → KindTables
 tables_of_kind P r k = record {
@@ -49,4 +50,8 @@ tables_of_kind P r k = record {
 
 -- the contact tables of a rule
 abbrev pub tables_of : (P : Points) → Rule P.ring.carrier → Tables
-tables_of P r = record { mates = map (λ t. t.mate) r.types; subs = map (λ t. t.parts) r.types; kinds = below (tables_of_kind P r) (length r.kinds) }
+tables_of P r = record {
+  mates = map (λ t. t.mate) r.types;
+  subs = map (λ t. t.parts) r.types;
+  kinds = below (tables_of_kind P r) (length r.kinds);
+}

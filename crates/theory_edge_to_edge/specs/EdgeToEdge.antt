@@ -22,7 +22,8 @@ IsStarShaped P r = (k : ℕ) → k < length r.kinds → is_star P (vertices_of r
 
 -- the factor is one that the edition takes: real and greater than 1, or of squared length above 1; and
 -- supertiles outgrow the limit of coordinates
-abbrev pub HasInflationFactor : (P : Points) → Edition → (P.ring.carrier → Bool) → Rule P.ring.carrier → Type 0
+abbrev pub HasInflationFactor : (P : Points) → Edition → (P.ring.carrier → Bool) → Rule P.ring.carrier
+    → Type 0
 HasInflationFactor P edition refused r = is_inflation_factor P edition refused r.factor ≡ true
 
 -- the mate's mate of each type is the type
@@ -39,11 +40,13 @@ HasMirroredSubdivisions r = (ty : ℕ) → ty < length r.types → is_mirrored r
 
 -- each child edge is inner or on the boundary
 abbrev pub HasNoneLoose : (P : Points) → Rule P.ring.carrier → Type 0
-HasNoneLoose P r = (k : ℕ) → k < length r.kinds → AllByRecursion (λ s. is_loose (lie_of P r k s) ≡ false) (child_edges P r k)
+HasNoneLoose P r = (k : ℕ) → k < length r.kinds
+    → AllByRecursion (λ s. is_loose (lie_of P r k s) ≡ false) (child_edges P r k)
 
 -- the boundary child edges of each inflated edge are its parts
 abbrev pub HasBoundaryCut : (P : Points) → Rule P.ring.carrier → Type 0
-HasBoundaryCut P r = (k e : ℕ) → k < length r.kinds → e < edge_count r k → is_ok (parts_of_edge P r k e) ≡ true
+HasBoundaryCut P r = (k e : ℕ) → k < length r.kinds → e < edge_count r k
+    → is_ok (parts_of_edge P r k e) ≡ true
 
 -- each kind has a use
 abbrev pub HasEachUsed : {A : Type 0} → Rule A → Type 0
@@ -54,7 +57,8 @@ abbrev pub HasRightGlue : {A : Type 0} → Rule A → Type 0
 HasRightGlue r = (i : ℕ) → i < length r.glue → glues_halves r i ≡ true
 
 -- the nine clauses beyond the limits
-pub record IsEdgeToEdge (P : Points) (edition : Edition) (refused : P.ring.carrier → Bool) (r : Rule P.ring.carrier) : Type 0 where
+pub record IsEdgeToEdge (P : Points) (edition : Edition) (refused : P.ring.carrier → Bool)
+    (r : Rule P.ring.carrier) : Type 0 where
   pub star_shaped : IsStarShaped P r
   pub inflation_factor : HasInflationFactor P edition refused r
   pub mates_back : MatesBack r

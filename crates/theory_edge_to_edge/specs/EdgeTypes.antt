@@ -22,7 +22,8 @@ edge_vector P r k e = difference P.ring (vertex P r k (next r k e)) (vertex P r 
 
 -- edge number e of kind k has the type or its mate: then its vector
 abbrev pub vector_if : (P : Points) → Rule P.ring.carrier → ℕ → ℕ → ℕ → Option P.ring.carrier
-vector_if P r ty k e = unless (not (nat_eq (edge_type r k e) ty || nat_eq (edge_type r k e) (mate r ty))) (edge_vector P r k e)
+vector_if P r ty k e =
+    unless (not (nat_eq (edge_type r k e) ty || nat_eq (edge_type r k e) (mate r ty))) (edge_vector P r k e)
 
 -- the vector of the first edge, in order of kind and edge, that has the type or its mate
 abbrev pub first_vector : (P : Points) → Rule P.ring.carrier → ℕ → Option P.ring.carrier

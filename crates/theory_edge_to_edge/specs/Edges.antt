@@ -23,21 +23,33 @@ pub record PlacedEdge (A : Type 0) : Type 0 where
 
 -- edge number e of kind k, inflated: from λ times its start to λ times its end
 abbrev pub inflated_edge : (P : Points) → Rule P.ring.carrier → ℕ → ℕ → Edge P.ring.carrier
-inflated_edge P r k e = record { from = P.ring.mul (vertex P r k e) r.factor; to = P.ring.mul (vertex P r k (next r k e)) r.factor }
+inflated_edge P r k e = record {
+  from = P.ring.mul (vertex P r k e) r.factor;
+  to = P.ring.mul (vertex P r k (next r k e)) r.factor;
+}
 
 -- the edges of the inflated prototile of kind k
 abbrev pub inflated_edges : (P : Points) → Rule P.ring.carrier → ℕ → List (Edge P.ring.carrier)
 inflated_edges P r k = below (inflated_edge P r k) (edge_count r k)
 
 -- edge number e of a prototile, moved
-abbrev pub moved_edge : (P : Points) → Rule P.ring.carrier → ℕ → Motion P.ring.carrier → ℕ → Edge P.ring.carrier
-moved_edge P r kind m e = record { from = moved P m (vertex P r kind e); to = moved P m (vertex P r kind (next r kind e)) }
+abbrev pub moved_edge : (P : Points) → Rule P.ring.carrier → ℕ → Motion P.ring.carrier → ℕ
+    → Edge P.ring.carrier
+moved_edge P r kind m e = record {
+  from = moved P m (vertex P r kind e);
+  to = moved P m (vertex P r kind (next r kind e));
+}
 
 -- edge number e of child number c of kind k
 abbrev pub child_edge : (P : Points) → Rule P.ring.carrier → ℕ → ℕ → ℕ → PlacedEdge P.ring.carrier
 child_edge P r k c e =
     let child = child_of P r k c in
-    record { child = c; edge = e; type = edge_type r child.kind e; line = moved_edge P r child.kind child.motion e }
+    record {
+      child = c;
+      edge = e;
+      type = edge_type r child.kind e;
+      line = moved_edge P r child.kind child.motion e;
+    }
 
 -- the edges of child number c, and those of all children of kind k in order of child and edge
 abbrev pub edges_of_child : (P : Points) → Rule P.ring.carrier → ℕ → ℕ → List (PlacedEdge P.ring.carrier)
@@ -57,4 +69,6 @@ is_opposite P s t = not (nat_eq s.child t.child && nat_eq s.edge t.edge) && runs
 -- the edge lies along the whole: its two ends differ, its end is on the whole, and its start between the
 -- start of the whole and its end
 abbrev pub lies_along : (P : Points) → Edge P.ring.carrier → Edge P.ring.carrier → Bool
-lies_along P whole e = along P.real (plane_point P whole.from) (plane_point P whole.to) (plane_point P e.from) (plane_point P e.to)
+lies_along P whole e =
+    along P.real (plane_point P whole.from) (plane_point P whole.to) (plane_point P e.from)
+    (plane_point P e.to)

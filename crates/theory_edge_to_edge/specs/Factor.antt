@@ -23,4 +23,5 @@ is_growing P Second l = is_above_one P l
 -- and one of its powers from 0 to 64 is a refused value, so that supertiles outgrow the limit of coordinates
 -- by depth 64
 abbrev pub is_inflation_factor : (P : Points) → Edition → (P.ring.carrier → Bool) → P.ring.carrier → Bool
-is_inflation_factor P edition refused l = is_growing P edition l && some_below 65 (λ n. refused (power P.ring l n))
+is_inflation_factor P edition refused l = is_growing P edition l
+    && some_below 65 (λ n. refused (power P.ring l n))

@@ -20,15 +20,19 @@ holders r ty = flat_map (λ k. once_each k ty (edge_types r k)) (below (λ k. k)
 
 -- kind k has an edge of one of the first n glue types or their mates
 abbrev pub is_glued_before : {A : Type 0} → Rule A → ℕ → ℕ → Bool
-is_glued_before r n k = some_below n (λ i. list_any (λ ty. nat_eq ty (glue_type r i) || nat_eq ty (mate r (glue_type r i))) (edge_types r k))
+is_glued_before r n k =
+    some_below n (λ i. list_any (λ ty. nat_eq ty (glue_type r i) || nat_eq ty (mate r (glue_type r i)))
+    (edge_types r k))
 
 -- one edge and one edge, of two kinds, neither of which has an edge of an earlier glue type
 abbrev pub are_halves : {A : Type 0} → Rule A → ℕ → List ℕ → List ℕ → Bool
-are_halves r n (a ∷ []) (b ∷ []) = not (nat_eq a b) && not (is_glued_before r n a) && not (is_glued_before r n b)
+are_halves r n (a ∷ []) (b ∷ []) = not (nat_eq a b) && not (is_glued_before r n a)
+    && not (is_glued_before r n b)
 are_halves r n ks ls = false
 
 -- Glue type number i is not its own mate. Among all kinds, exactly one edge has it and exactly one has its
 -- mate; these are of two kinds. Neither kind has an edge of an earlier glue type or its mate.
 abbrev pub glues_halves : {A : Type 0} → Rule A → ℕ → Bool
 glues_halves r i =
-    not (nat_eq (mate r (glue_type r i)) (glue_type r i)) && are_halves r i (holders r (glue_type r i)) (holders r (mate r (glue_type r i)))
+    not (nat_eq (mate r (glue_type r i)) (glue_type r i))
+    && are_halves r i (holders r (glue_type r i)) (holders r (mate r (glue_type r i)))

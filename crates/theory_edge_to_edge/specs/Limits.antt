@@ -35,7 +35,8 @@ parts_fit r ty = is_from_to 1 8 (length (parts r ty)) && list_all (is_type r) (p
 
 -- 3 to 12 edges of a kind, one for each vertex, each of a type
 abbrev pub edges_fit : {A : Type 0} → Rule A → ℕ → Bool
-edges_fit r k = is_from_to 3 12 (edge_count r k) && nat_eq (length (vertices_of r k)) (edge_count r k) && list_all (is_type r) (edge_types r k)
+edges_fit r k = is_from_to 3 12 (edge_count r k) && nat_eq (length (vertices_of r k)) (edge_count r k)
+    && list_all (is_type r) (edge_types r k)
 
 -- small vertices of a kind
 abbrev pub vertices_fit : {A : Type 0} → (A → Bool) → Rule A → ℕ → Bool
@@ -43,4 +44,5 @@ vertices_fit small r k = list_all small (vertices_of r k)
 
 -- 1 to 16 children of a kind
 abbrev pub children_fit : {A : Type 0} → ℕ → (A → Bool) → Rule A → ℕ → Bool
-children_fit n small r k = is_from_to 1 16 (length (children_of r k)) && list_all (is_child n small r) (children_of r k)
+children_fit n small r k = is_from_to 1 16 (length (children_of r k))
+    && list_all (is_child n small r) (children_of r k)

@@ -16,7 +16,8 @@ pub data Lie : Type 0 where
 -- the numbers, from n, of the edges along which e lies
 abbrev pub numbers_along : (P : Points) → ℕ → List (Edge P.ring.carrier) → Edge P.ring.carrier → List ℕ
 numbers_along P n [] e = []
-numbers_along P n (whole ∷ wholes) e = cond (lies_along P whole e) (n ∷ []) [] ++ numbers_along P (suc n) wholes e
+numbers_along P n (whole ∷ wholes) e = cond (lies_along P whole e) (n ∷ []) []
+    ++ numbers_along P (suc n) wholes e
 
 -- met by t, if the types are mates
 abbrev pub met_by : {A : Type 0} → Bool → PlacedEdge A → Lie
@@ -34,7 +35,8 @@ lie_by r s [] (e ∷ (f ∷ es)) = loose
 lie_by r s (t ∷ (u ∷ ts)) numbers = loose
 
 -- among these child edges, and these inflated edges
-abbrev pub lie_among : (P : Points) → Rule P.ring.carrier → List (PlacedEdge P.ring.carrier) → List (Edge P.ring.carrier) → PlacedEdge P.ring.carrier → Lie
+abbrev pub lie_among : (P : Points) → Rule P.ring.carrier → List (PlacedEdge P.ring.carrier)
+    → List (Edge P.ring.carrier) → PlacedEdge P.ring.carrier → Lie
 lie_among P r edges wholes s = lie_by r s (filter (is_opposite P s) edges) (numbers_along P 0 wholes s.line)
 
 -- where a child edge of kind k lies

@@ -16,12 +16,15 @@ pub record IsNumbered (P : Points) (r : Rule P.ring.carrier) : Type 0 where
   pub mate_exists : (ty : ℕ) → ty < length r.types → mate r ty < length r.types
   pub some_part : (ty : ℕ) → ty < length r.types → 1 ≤ length (parts r ty)
   pub at_most_8_parts : (ty : ℕ) → ty < length r.types → length (parts r ty) ≤ 8
-  pub part_exists : (ty i : ℕ) → ty < length r.types → i < length (parts r ty) → get_or (parts r ty) i 0 < length r.types
+  pub part_exists : (ty i : ℕ) → ty < length r.types → i < length (parts r ty)
+      → get_or (parts r ty) i 0 < length r.types
   pub at_least_3_edges : (k : ℕ) → k < length r.kinds → 3 ≤ edge_count r k
   pub at_most_12_edges : (k : ℕ) → k < length r.kinds → edge_count r k ≤ 12
   pub vertex_each : (k : ℕ) → k < length r.kinds → length (vertices_of r k) ≡ edge_count r k
   pub type_exists : (k e : ℕ) → k < length r.kinds → e < edge_count r k → edge_type r k e < length r.types
   pub some_child : (k : ℕ) → k < length r.kinds → 1 ≤ length (children_of r k)
   pub at_most_16_children : (k : ℕ) → k < length r.kinds → length (children_of r k) ≤ 16
-  pub child_exists : (k c : ℕ) → k < length r.kinds → c < length (children_of r k) → (child_of P r k c).kind < length r.kinds
-  pub turn_below : (k c : ℕ) → k < length r.kinds → c < length (children_of r k) → (child_of P r k c).motion.turn < P.order
+  pub child_exists : (k c : ℕ) → k < length r.kinds → c < length (children_of r k)
+      → (child_of P r k c).kind < length r.kinds
+  pub turn_below : (k c : ℕ) → k < length r.kinds → c < length (children_of r k)
+      → (child_of P r k c).motion.turn < P.order

@@ -22,7 +22,8 @@ fan_turns_left P vs = all_below (length vs - 2) (λ i. turns_left P.real (fan_tr
 
 -- a line along an edge of one of them separates each two triangles of the fan
 abbrev pub fan_is_apart : (P : Points) → List P.ring.carrier → Bool
-fan_is_apart P vs = all_below (length vs - 2) (λ j. all_below j (λ i. separated P.real (fan_triangle P vs i) (fan_triangle P vs j)))
+fan_is_apart P vs = all_below (length vs - 2)
+    (λ j. all_below j (λ i. separated P.real (fan_triangle P vs i) (fan_triangle P vs j)))
 
 -- the first and the last edge leave vertex 0 in two directions: neither of vertex 1 and the last vertex is on
 -- the segment from vertex 0 to the other

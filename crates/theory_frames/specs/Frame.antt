@@ -24,12 +24,16 @@ motion_beside P r base tile = followed P (placement P r tile) (back P (placement
 -- the tiles of a frame: those of the supertile, each motion followed by the motion back of the base
 abbrev pub frame_tiles : (P : Points) → Rule P.ring.carrier → Address → List (Placed P.ring.carrier)
 frame_tiles P r f =
-    map (λ (t : Placed P.ring.carrier). record { address = t.address; motion = followed P t.motion (back P (placement P r f.digits)) }) (supertile P r (top_kind f) (depth f))
+    map (λ (t : Placed P.ring.carrier). record
+    { address = t.address; motion = followed P t.motion (back P (placement P r f.digits)) })
+    (supertile P r (top_kind f) (depth f))
 
 -- the motion is listed with the address among the tiles of the frame, and no other is
-pub record StandsInFrame (P : Points) (r : Rule P.ring.carrier) (f a : Address) (m : Motion P.ring.carrier) : Type 0 where
+pub record StandsInFrame (P : Points) (r : Rule P.ring.carrier) (f a : Address)
+    (m : Motion P.ring.carrier) : Type 0 where
   pub among : IsAmong (record { address = a; motion = m }) (frame_tiles P r f)
-  pub alone : (g : Motion P.ring.carrier) → IsAmong (record { address = a; motion = g }) (frame_tiles P r f) → g ≡ m
+  pub alone : (g : Motion P.ring.carrier) → IsAmong (record { address = a; motion = g }) (frame_tiles P r f)
+      → g ≡ m
 
 -- The tile is of the frame. Its address fits, it is no deeper than the frame, and its kind at the level of
 -- its depth is the frame's there. So it names a tile of the frame's ancestor of that depth.
@@ -44,4 +48,5 @@ lifted_in f a = record { kind = a.kind; digits = a.digits ++ drop (depth a) f.di
 
 -- the kind of each child of each kind is a kind of the rule
 abbrev pub HasChildKinds : (P : Points) → Rule P.ring.carrier → Type 0
-HasChildKinds P r = (k c : ℕ) → k < length r.kinds → c < length (children_of r k) → (child_of P r k c).kind < length r.kinds
+HasChildKinds P r = (k c : ℕ) → k < length r.kinds → c < length (children_of r k)
+    → (child_of P r k c).kind < length r.kinds

@@ -14,8 +14,12 @@ chosen uses word = get_or uses (word % length uses) no_step
 -- digit starts from
 abbrev pub grown_from : (ℕ → List Step) → (ℕ → ℕ) → ℕ → ℕ → ℕ → List Step
 grown_from uses word j top zero = []
-grown_from uses word j top (suc n) = chosen (uses top) (word j) ∷ grown_from uses word (j + 1) (chosen (uses top) (word j)).parent n
+grown_from uses word j top (suc n) =
+    chosen (uses top) (word j) ∷ grown_from uses word (j + 1) (chosen (uses top) (word j)).parent n
 
 -- the base's address with this number of grown digits
 abbrev pub grown_by : (ℕ → List Step) → (ℕ → ℕ) → ℕ → Address → Address
-grown_by uses word n base = record { kind = base.kind; digits = base.digits ++ grown_from uses word 0 (top_kind base) n }
+grown_by uses word n base = record {
+  kind = base.kind;
+  digits = base.digits ++ grown_from uses word 0 (top_kind base) n;
+}

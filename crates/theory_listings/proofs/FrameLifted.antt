@@ -13,7 +13,7 @@ use Rattle.theory_dissection.specs.Polygons.{tile_polygon}
 use Rattle.theory_dissection.proofs.Setting.{Setting}
 use Rattle.theory_frames.specs.Frame.{at_level, IsTileOf, lifted_in}
 use Rattle.theory_windows.specs.Meeting.{PolygonMeetsBox}
-use Rattle.theory_windows.specs.FramePatch.{frame_patch, lifted_tile, in_frame}
+use Rattle.theory_windows.specs.FramePatch.{frame_patch, tile_of_ancestor, in_frame}
 use Rattle.theory_windows.specs.FrameWindow.{AreAllThatMeet, IsLeastDepth}
 use Rattle.theory_windows.proofs.FrameDrawn.{lifted-one}
 use Rattle.theory_windows.proofs.Renamed.{lifted-depth, lifted-tile, renamed, shorter, further}
@@ -58,7 +58,7 @@ module _ (T : Setting) where
     low = deepest_listed m listing
 
     abbrev lift : Placed A → Placed A
-    lift x = lifted_tile (at_level f low) x
+    lift x = tile_of_ancestor (at_level f low) x
 
     abbrev lifted : List (Placed A)
     lifted = map lift listing
@@ -90,8 +90,8 @@ module _ (T : Setting) where
       lift-tile x i = shorter T f fits n within (lift x).address
           (lifted-tile T f fits low start x.address (tile x i)) (subst (λ k. k ≤ n) (sym (deep x i)) above)
 
-      lifted-again : (x : Placed A) → IsAmong x listing → lifted_tile (at_level f n) (lift x) ≡ lifted_tile (at_level f n) x
-      lifted-again x i = lifted-one T f fits refused n within (lifted_tile (at_level f n) (lift x)) (lifted_tile (at_level f n) x)
+      lifted-again : (x : Placed A) → IsAmong x listing → tile_of_ancestor (at_level f n) (lift x) ≡ tile_of_ancestor (at_level f n) x
+      lifted-again x i = lifted-one T f fits refused n within (tile_of_ancestor (at_level f n) (lift x)) (tile_of_ancestor (at_level f n) x)
           (lifted-depth T f fits n within (lift x).address (lift-tile x i)) (lifted-depth T f fits n within x.address (own-tile x i))
           (λ j. record { address = names j; motion = x.motion })
         where
@@ -101,11 +101,11 @@ module _ (T : Setting) where
               ∙ renamed T f fits low start x.address (tile x i)
               ∙ sym (renamed T f fits n within x.address (own-tile x i)))
 
-      all-again : map (lifted_tile (at_level f n)) lifted ≡ map (lifted_tile (at_level f n)) listing
+      all-again : map (tile_of_ancestor (at_level f n)) lifted ≡ map (tile_of_ancestor (at_level f n)) listing
       all-again = go listing lifted-again
         where
-          go : (xs : List (Placed A)) → ((x : Placed A) → IsAmong x xs → lifted_tile (at_level f n) (lift x) ≡ lifted_tile (at_level f n) x)
-              → map (lifted_tile (at_level f n)) (map lift xs) ≡ map (lifted_tile (at_level f n)) xs
+          go : (xs : List (Placed A)) → ((x : Placed A) → IsAmong x xs → tile_of_ancestor (at_level f n) (lift x) ≡ tile_of_ancestor (at_level f n) x)
+              → map (tile_of_ancestor (at_level f n)) (map lift xs) ≡ map (tile_of_ancestor (at_level f n)) xs
           go [] h = refl
           go (x ∷ xs) h = ap₂ (λ (t : Placed A) (ts : List (Placed A)). t ∷ ts) (h x (inl refl)) (go xs (λ y i. h y (inr i)))
 

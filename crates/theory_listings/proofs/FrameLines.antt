@@ -16,8 +16,8 @@ use Rattle.theory_frames.specs.Frame.{at_level, frame_tiles, IsTileOf, lifted_in
 use Rattle.theory_windows.specs.Distinct.{AreDistinct}
 use Rattle.theory_windows.specs.Meeting.{PolygonMeetsBox}
 use Rattle.theory_windows.specs.GrowingPatch.{GrowingPatch, IsOfDepth}
-use Rattle.theory_windows.specs.EnoughDepth.{AreDrawn, IsLeastEnough}
-use Rattle.theory_windows.specs.FramePatch.{growing_frame, lifted_tile, in_frame}
+use Rattle.theory_windows.specs.EnoughDepth.{AreDrawnAtDepth, IsLeastEnough}
+use Rattle.theory_windows.specs.FramePatch.{growing_frame, tile_of_ancestor, in_frame}
 use Rattle.theory_windows.specs.FrameWindow.{IsLeastDepth}
 use Rattle.theory_windows.specs.FrameCover.{IsWindowOn}
 use Rattle.theory_windows.proofs.Members.{among-map}
@@ -108,10 +108,10 @@ module _ (T : Setting) where
     at-depth n within a h = ap (λ (t : Placed A). t.address) (renamed T f on.frame n within a h)
 
     -- a tile of the frame at a depth has the name of its address
-    fine-is : (n : ℕ) → n ≤ depth f → (x : Placed A) → IsAmong x (frame_tiles P r (at_level f n)) → lifted_tile f x ≡ in_frame P r f x.address
+    fine-is : (n : ℕ) → n ≤ depth f → (x : Placed A) → IsAmong x (frame_tiles P r (at_level f n)) → tile_of_ancestor f x ≡ in_frame P r f x.address
     fine-is n within x i =
-        let b = (named_law P W T.accepted f on.frame refused n within (lifted_tile f x)).0
-        ((lift_law P W T.accepted f on.frame refused n within (lifted_tile f x)).1 (x, i, refl)) in
+        let b = (named_law P W T.accepted f on.frame refused n within (tile_of_ancestor f x)).0
+        ((lift_law P W T.accepted f on.frame refused n within (tile_of_ancestor f x)).1 (x, i, refl)) in
         let same : x ≡ record { address = b.0; motion = (in_frame P r f b.0).motion }
         = lifted-one T f on.frame refused n within x
         (record { address = b.0; motion = (in_frame P r f b.0).motion })
@@ -120,16 +120,17 @@ module _ (T : Setting) where
 
     -- the name of a line's address, by the line lifted to that depth
     fine-line : (n : ℕ) → n ≤ depth f → (x : Placed A) → IsTileOf children (at_level f n) x.address
-        → IsAmong (lifted_tile (at_level f n) x) (frame_tiles P r (at_level f n))
-        → lifted_tile f (lifted_tile (at_level f n) x) ≡ in_frame P r f x.address
-    fine-line n within x h i = fine-is n within (lifted_tile (at_level f n) x) i ∙ renamed T f on.frame n within x.address h
+        → IsAmong (tile_of_ancestor (at_level f n) x) (frame_tiles P r (at_level f n))
+        → tile_of_ancestor f (tile_of_ancestor (at_level f n) x) ≡ in_frame P r f x.address
+    fine-line n within x h i = fine-is n within (tile_of_ancestor (at_level f n) x) i ∙ renamed T f on.frame n within x.address h
 
     -- a line with its tile's motion, lifted
     placed-line : (n : ℕ) → n ≤ depth f → (x : Placed A) → IsTileOf children (at_level f n) x.address → x.motion ≡ (in_frame P r f x.address).motion
-        → lifted_tile f (lifted_tile (at_level f n) x) ≡ in_frame P r f x.address
+        → tile_of_ancestor f (tile_of_ancestor (at_level f n) x) ≡ in_frame P r f x.address
     placed-line n within x h e = λ i. record { address = at-depth n within x.address h i; motion = e i }
 
-    deep-line : (n : ℕ) → n ≤ depth f → (x : Placed A) → IsTileOf children (at_level f n) x.address → depth (lifted_tile (at_level f n) x).address ≡ n
+    deep-line : (n : ℕ) → n ≤ depth f → (x : Placed A) → IsTileOf children (at_level f n) x.address
+        → depth (tile_of_ancestor (at_level f n) x).address ≡ n
     deep-line n within x h = lifted-depth T f on.frame n within x.address h
 
     -- ---- listed tiles
@@ -139,44 +140,46 @@ module _ (T : Setting) where
       of-line x i = AllByRecursion-among (λ (x : Placed A). IsTileOf children (at_level f n) x.address) x listing i of_frame
 
       fine-listed : (t : Placed A) → IsAmong t (frame_tiles P r (at_level f n))
-          → IsAmong t (map (lifted_tile (at_level f n)) listing) → IsListedIn P r f listing (lifted_tile f t)
+          → IsAmong t (map (tile_of_ancestor (at_level f n)) listing) → IsListedIn P r f listing (tile_of_ancestor f t)
       fine-listed t i j =
-          let s = among-map (lifted_tile (at_level f n)) t listing j in
-          let fine : IsAmong (lifted_tile (at_level f n) s.0) (frame_tiles P r (at_level f n)) = subst
+          let s = among-map (tile_of_ancestor (at_level f n)) t listing j in
+          let fine : IsAmong (tile_of_ancestor (at_level f n) s.0) (frame_tiles P r (at_level f n)) = subst
           (λ u. IsAmong u (frame_tiles P r (at_level f n))) s.2 i in (
             line_named P r f s.0,
             IsAmong-map (line_named P r f) s.0 listing s.1,
-            sym (ap (lifted_tile f) s.2 ∙ fine-line n within s.0 (of-line s.0 s.1) fine),
+            sym (ap (tile_of_ancestor f) s.2 ∙ fine-line n within s.0 (of-line s.0 s.1) fine),
             ap (λ (u : Placed A). u.motion) (sym s.2),
           )
 
       listed-fine : (t : Placed A) → IsAmong t (frame_tiles P r (at_level f n))
-          → IsListedIn P r f listing (lifted_tile f t) → IsAmong t (map (lifted_tile (at_level f n)) listing)
+          → IsListedIn P r f listing (tile_of_ancestor f t) → IsAmong t (map (tile_of_ancestor (at_level f n)) listing)
       listed-fine t i h =
           let s = among-map (line_named P r f) h.0 listing h.1 in
-          let its_name : in_frame P r f s.0.address ≡ lifted_tile f t = ap (λ (l : ListLine (Placed A) (Motion A)). l.tile) (sym s.2) ∙ h.2 in
+          let its_name : in_frame P r f s.0.address ≡ tile_of_ancestor f t = ap (λ (l : ListLine (Placed A) (Motion A)). l.tile) (sym s.2) ∙ h.2 in
           let its_motion : s.0.motion ≡ t.motion = ap (λ (l : ListLine (Placed A) (Motion A)). l.motion) (sym s.2) ∙ h.3 in
-          let placed : lifted_tile f (lifted_tile (at_level f n) s.0) ≡ lifted_tile f t
+          let placed : tile_of_ancestor f (tile_of_ancestor (at_level f n) s.0) ≡ tile_of_ancestor f t
           = placed-line n within s.0 (of-line s.0 s.1) (its_motion ∙ ap (λ (u : Placed A). u.motion) (sym its_name)) ∙ its_name in
-          let same : t ≡ lifted_tile (at_level f n) s.0
-          = lifted-one T f on.frame refused n within t (lifted_tile (at_level f n) s.0)
+          let same : t ≡ tile_of_ancestor (at_level f n) s.0
+          = lifted-one T f on.frame refused n within t (tile_of_ancestor (at_level f n) s.0)
           (fine-deep T f on.frame refused n within t i) (deep-line n within s.0 (of-line s.0 s.1))
           (sym placed) in
-          subst (λ u. IsAmong u (map (lifted_tile (at_level f n)) listing)) (sym same) (IsAmong-map (lifted_tile (at_level f n)) s.0 listing s.1)
+          subst (λ u. IsAmong u (map (tile_of_ancestor (at_level f n)) listing)) (sym same)
+          (IsAmong-map (tile_of_ancestor (at_level f n)) s.0 listing s.1)
 
       -- the lines lifted to depth n, and then to the frame's, are the tiles that they name, where each has its tile's motion
-      lifted-are : ((x : Placed A) → IsAmong x listing → lifted_tile f (lifted_tile (at_level f n) x) ≡ in_frame P r f x.address)
-          → map (lifted_tile f) (map (lifted_tile (at_level f n)) listing) ≡ named_tiles lines
+      lifted-are : ((x : Placed A) → IsAmong x listing → tile_of_ancestor f (tile_of_ancestor (at_level f n) x) ≡ in_frame P r f x.address)
+          → map (tile_of_ancestor f) (map (tile_of_ancestor (at_level f n)) listing) ≡ named_tiles lines
       lifted-are each = go listing each ∙ sym named-are
         where
-          go : (xs : List (Placed A)) → ((x : Placed A) → IsAmong x xs → lifted_tile f (lifted_tile (at_level f n) x) ≡ in_frame P r f x.address)
-              → map (lifted_tile f) (map (lifted_tile (at_level f n)) xs) ≡ map (λ (x : Placed A). in_frame P r f x.address) xs
+          go : (xs : List (Placed A))
+              → ((x : Placed A) → IsAmong x xs → tile_of_ancestor f (tile_of_ancestor (at_level f n) x) ≡ in_frame P r f x.address)
+              → map (tile_of_ancestor f) (map (tile_of_ancestor (at_level f n)) xs) ≡ map (λ (x : Placed A). in_frame P r f x.address) xs
           go [] h = refl
           go (x ∷ xs) h = ap₂ (λ (t : Placed A) (ts : List (Placed A)). t ∷ ts) (h x (inl refl)) (go xs (λ y i. h y (inr i)))
 
-      all-deep : AllByRecursion (λ (t : Placed A). depth t.address ≡ n) (map (lifted_tile (at_level f n)) listing)
-      all-deep = AllByRecursion-map (λ (t : Placed A). depth t.address ≡ n) (lifted_tile (at_level f n)) listing
-          (AllByRecursion-from (λ (x : Placed A). depth (lifted_tile (at_level f n) x).address ≡ n) listing
+      all-deep : AllByRecursion (λ (t : Placed A). depth t.address ≡ n) (map (tile_of_ancestor (at_level f n)) listing)
+      all-deep = AllByRecursion-map (λ (t : Placed A). depth t.address ≡ n) (tile_of_ancestor (at_level f n)) listing
+          (AllByRecursion-from (λ (x : Placed A). depth (tile_of_ancestor (at_level f n) x).address ≡ n) listing
           (λ x i. deep-line n within x (of-line x i)))
 
     -- ---- a right listing has right lines
@@ -189,20 +192,20 @@ module _ (T : Setting) where
         depth = h.depth;
         least = subst (λ k. IsLeastEnough S (Placed A) F box k h.depth) (sym deepest-is)
             (least-enough T f on.frame refused box low h.depth start h.least);
-        drawn = subst (AreDrawn S (Placed A) F box h.depth) (lifted-are h.depth h.least.within h.of_frame its_line)
+        drawn = subst (AreDrawnAtDepth S (Placed A) F box h.depth) (lifted-are h.depth h.least.within h.of_frame its_line)
             ((drawn_law P W T.accepted f on.frame refused h.depth h.least.within box
-            (map (lifted_tile (at_level f h.depth)) listing)
+            (map (tile_of_ancestor (at_level f h.depth)) listing)
             (all-deep h.depth h.least.within h.of_frame)).0 h.all_that_meet);
         placed = AllByRecursion-map (λ (l : ListLine (Placed A) (Motion A)). l.motion ≡ l.tile.motion) (line_named P r f) listing
             (AllByRecursion-from (λ (x : Placed A). x.motion ≡ (in_frame P r f x.address).motion) listing (λ x i. ap shift_of (its_line x i)));
       }
         where
-          fine : (x : Placed A) → IsAmong x listing → IsAmong (lifted_tile (at_level f h.depth) x) (frame_tiles P r (at_level f h.depth))
+          fine : (x : Placed A) → IsAmong x listing → IsAmong (tile_of_ancestor (at_level f h.depth) x) (frame_tiles P r (at_level f h.depth))
           fine x i = AllByRecursion-among (λ (t : Placed A). IsAmong t (frame_tiles P r (at_level f h.depth)))
-              (lifted_tile (at_level f h.depth) x) (map (lifted_tile (at_level f h.depth)) listing)
-              (IsAmong-map (lifted_tile (at_level f h.depth)) x listing i) h.all_that_meet.of_patch
+              (tile_of_ancestor (at_level f h.depth) x) (map (tile_of_ancestor (at_level f h.depth)) listing)
+              (IsAmong-map (tile_of_ancestor (at_level f h.depth)) x listing i) h.all_that_meet.of_patch
 
-          its_line : (x : Placed A) → IsAmong x listing → lifted_tile f (lifted_tile (at_level f h.depth) x) ≡ in_frame P r f x.address
+          its_line : (x : Placed A) → IsAmong x listing → tile_of_ancestor f (tile_of_ancestor (at_level f h.depth) x) ≡ in_frame P r f x.address
           its_line x i = fine-line h.depth h.least.within x (of-line h.depth h.least.within h.of_frame x i) (fine x i)
 
       pub right-depth : (h : IsRightListing P r f box m listing) → (right-lines h).depth ≡ h.depth
@@ -225,14 +228,14 @@ module _ (T : Setting) where
               least = least;
               of_frame = there;
               all_that_meet = (drawn_law P W T.accepted f on.frame refused h.depth least.within box
-                  (map (lifted_tile (at_level f h.depth)) listing) (all-deep h.depth least.within there)).1
-                  (subst (AreDrawn S (Placed A) F box h.depth)
+                  (map (tile_of_ancestor (at_level f h.depth)) listing) (all-deep h.depth least.within there)).1
+                  (subst (AreDrawnAtDepth S (Placed A) F box h.depth)
                   (sym (lifted-are h.depth least.within there (its_line h.depth least.within there h)))
                   h.drawn);
             }
           where
             its_line : (n : ℕ) → n ≤ depth f → AreOfFrame P r (at_level f n) listing → Right → (x : Placed A) → IsAmong x listing
-                → lifted_tile f (lifted_tile (at_level f n) x) ≡ in_frame P r f x.address
+                → tile_of_ancestor f (tile_of_ancestor (at_level f n) x) ≡ in_frame P r f x.address
             its_line n within there h x i = placed-line n within x (of-line n within there x i)
                 (AllByRecursion-among (λ (l : ListLine (Placed A) (Motion A)). l.motion ≡ l.tile.motion)
                 (line_named P r f x) lines (IsAmong-map (line_named P r f) x listing i) h.placed)
@@ -254,7 +257,7 @@ module _ (T : Setting) where
               subst (λ (v : Placed A). refused v.motion.shift ≡ false) (sym u.2) (h.none_refused u.0 u.1 (meets u.0 t u.2 k));
         }
           where
-            meets : (x t : Placed A) → t ≡ lifted_tile f x
+            meets : (x t : Placed A) → t ≡ tile_of_ancestor f x
                 → PolygonMeetsBox S box (tile_polygon P r (λ z. z) t)
                 → PolygonMeetsBox S box (tile_polygon P r (λ z. z) x)
             meets x t e k = subst (λ (v : Placed A). PolygonMeetsBox S box (tile_polygon P r (λ z. z) v)) e k
@@ -268,12 +271,13 @@ module _ (T : Setting) where
               least = least;
               each_listed = λ x i k. listed-fine h.depth least.within
                   (further-frame h.depth least.not_below least.within) x i
-                  (h.each_listed (lifted_tile f x) (deep h.depth least.within x i) k);
-              none_refused = λ x i k. h.none_refused (lifted_tile f x) (deep h.depth least.within x i) k;
+                  (h.each_listed (tile_of_ancestor f x) (deep h.depth least.within x i) k);
+              none_refused = λ x i k. h.none_refused (tile_of_ancestor f x) (deep h.depth least.within x i) k;
             }
           where
-            deep : (n : ℕ) → n ≤ depth f → (x : Placed A) → IsAmong x (frame_tiles P r (at_level f n)) → IsOfDepth S (Placed A) F n (lifted_tile f x)
-            deep n within x i = (lift_law P W T.accepted f on.frame refused n within (lifted_tile f x)).1 (x, i, refl)
+            deep : (n : ℕ) → n ≤ depth f → (x : Placed A) → IsAmong x (frame_tiles P r (at_level f n))
+                → IsOfDepth S (Placed A) F n (tile_of_ancestor f x)
+            deep n within x i = (lift_law P W T.accepted f on.frame refused n within (tile_of_ancestor f x)).1 (x, i, refl)
 
         -- ---- refused shifts, where each line has its tile's motion
         pub unrefused-lines : AllByRecursion (λ (x : Placed A). x.motion ≡ (in_frame P r f x.address).motion)

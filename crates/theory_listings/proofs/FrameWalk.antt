@@ -28,7 +28,7 @@ use Rattle.theory_windows.specs.Patch.{HasAcross}
 use Rattle.theory_windows.specs.GrowingPatch.{GrowingPatch, IsOfDepth}
 use Rattle.theory_windows.specs.PatchWindow.{PatchWindow, LiesAcross}
 use Rattle.theory_windows.specs.Refusals.{IsDepthLimit}
-use Rattle.theory_windows.specs.FramePatch.{frame_patch, level_in, growing_frame, lifted_tile, in_frame, line_of}
+use Rattle.theory_windows.specs.FramePatch.{frame_patch, level_in, growing_frame, tile_of_ancestor, in_frame, line_of}
 use Rattle.theory_windows.specs.FrameCover.{IsWindowOn}
 use Rattle.theory_windows.proofs.CarriedFrames.{frame_patch_law, lift_law, lines_law}
 use Rattle.theory_windows.proofs.KindEdges.{line-number}
@@ -117,11 +117,11 @@ module _ (T : Setting) (divides : DividesWhole T.points.real) where
 
       pub walk-start : (n : ℕ) → n ≤ depth f → (t : Placed A) → IsAmong t (frame_tiles P r (at_level f n))
           → IsTrue (member S (tile_polygon P r (λ z. z) t) (test_point S.ops box.centre))
-          → ComesOnIn P refused T.accepted f box listing [] (lifted_tile f t)
+          → ComesOnIn P refused T.accepted f box listing [] (tile_of_ancestor f t)
       walk-start n within t i inside =
-          let d : IsOfDepth S (Placed A) F n (lifted_tile f t)
-          = (lift_law P W T.accepted f window.frame refused n within (lifted_tile f t)).1 (t, i, refl) in
-          comes [] (lifted_tile f t) (holds.start (lifted_tile f t) (record { of_patch = d.0; holds = inside }))
+          let d : IsOfDepth S (Placed A) F n (tile_of_ancestor f t)
+          = (lift_law P W T.accepted f window.frame refused n within (tile_of_ancestor f t)).1 (t, i, refl) in
+          comes [] (tile_of_ancestor f t) (holds.start (tile_of_ancestor f t) (record { of_patch = d.0; holds = inside }))
 
       -- an edge of a tile found
       module _ (found : List (Placed A)) (a : Address) (e : ℕ) (h : IsEdgeOfWalkOn P refused T.accepted f box listing found a e) where

@@ -7,11 +7,12 @@ use Rattle.theory_substitution.specs.Rule.{Rule}
 use Rattle.theory_substitution.specs.Supertile.{Placed}
 use Rattle.theory_dissection.specs.Accepted.{AcceptedRule, NamesTile}
 use Rattle.theory_frames.specs.Frame.{at_level}
-use Rattle.theory_windows.specs.FramePatch.{lifted_tile}
+use Rattle.theory_windows.specs.FramePatch.{tile_of_ancestor}
 use Rattle.theory_listings.specs.FrameListing.{deepest_listed, AreOfFrame, IsRightListing, AreUnrefused, AreAllListed, IsStray}
 
 -- both listings grow the frame to one depth, and are right together, with all listed, or with a stray line
-pub record SayTheSame (P : Points) (refused : P.ring.carrier → Bool) (r : Rule P.ring.carrier) (f : Address) (box : OpenBox P.real.ops.carrier) (m : ℕ)
+pub record SayTheSame (P : Points) (refused : P.ring.carrier → Bool) (r : Rule P.ring.carrier) (f : Address)
+    (box : OpenBox P.real.ops.carrier) (m : ℕ)
     (listing others : List (Placed P.ring.carrier)) : Type 0 where
   pub deepest : deepest_listed m others ≡ deepest_listed m listing
   pub right : IsRightListing P r f box m others ↔ IsRightListing P r f box m listing
@@ -21,6 +22,9 @@ pub record SayTheSame (P : Points) (refused : P.ring.carrier → Bool) (r : Rule
 
 abbrev pub LiftedListingLaw : Points → Type 0
 LiftedListingLaw P =
-    (T : AcceptedRule P) (f : Address) → NamesTile P T.rule f → (refused : P.ring.carrier → Bool) (box : OpenBox P.real.ops.carrier) (m : ℕ)
-    (listing : List (Placed P.ring.carrier)) → deepest_listed m listing ≤ depth f → AreOfFrame P T.rule (at_level f (deepest_listed m listing)) listing
-    → SayTheSame P refused T.rule f box m listing (map (lifted_tile (at_level f (deepest_listed m listing))) listing)
+    (T : AcceptedRule P) (f : Address) → NamesTile P T.rule f
+    → (refused : P.ring.carrier → Bool) (box : OpenBox P.real.ops.carrier) (m : ℕ)
+    (listing : List (Placed P.ring.carrier)) → deepest_listed m listing ≤ depth f
+    → AreOfFrame P T.rule (at_level f (deepest_listed m listing)) listing
+    → SayTheSame P refused T.rule f box m listing
+    (map (tile_of_ancestor (at_level f (deepest_listed m listing))) listing)

@@ -32,10 +32,12 @@ pub record IsFirstLine {L : Type 0} (Q : L → Type 0) (lines : List L) (i : ℕ
   pub first : (j : ℕ) (k : L) → j < i → IsLineAt lines j k → ¬ Q k
 
 -- each line names a tile of the patch at the depth of its digits, and no two name one
-pub record AreLinesOf (S : Signed) (T M : Type 0) (F : GrowingPatch S T) (lines : List (ListLine T M)) : Type 0 where
+pub record AreLinesOf (S : Signed) (T M : Type 0) (F : GrowingPatch S T)
+    (lines : List (ListLine T M)) : Type 0 where
   pub of_depth : AllByRecursion (λ l. IsOfDepth S T F l.digits l.tile) lines
   pub distinct : AreDistinct (named_tiles lines)
 
 -- a line names t, with its motion
 abbrev pub IsListed : {T M : Type 0} → (T → M) → List (ListLine T M) → T → Type 0
-IsListed {T} {M} motion_of lines t = (l : ListLine T M) × IsAmong l lines × (l.tile ≡ t) × (l.motion ≡ motion_of t)
+IsListed {T} {M} motion_of lines t = (l : ListLine T M) × IsAmong l lines × (l.tile ≡ t)
+    × (l.motion ≡ motion_of t)

@@ -20,7 +20,8 @@ is_shorter S r s = less S r s && less S (S.ops.neg r) s
 abbrev pub in_box : (S : Signed) → OpenBox S.ops.carrier → TestPoint S.ops.carrier → Bool
 in_box S box p =
     is_shorter S (difference S.ops p.x (S.ops.mul p.d box.centre.x)) (S.ops.mul p.d (S.ops.int (pos box.w)))
-    && is_shorter S (difference S.ops p.y (S.ops.mul p.d box.centre.y)) (S.ops.mul p.d (S.ops.int (pos box.h)))
+    && is_shorter S (difference S.ops p.y (S.ops.mul p.d box.centre.y))
+    (S.ops.mul p.d (S.ops.int (pos box.h)))
 
 -- the point whose coordinates are d times those of z
 abbrev pub scaled : (R : Ops) → R.carrier → PlanePoint R.carrier → PlanePoint R.carrier
@@ -28,9 +29,12 @@ scaled R d z = record { x = R.mul d z.x; y = R.mul d z.y }
 
 -- whether a test point (x, y, d) lies on the closed edge a→b: (x, y) is on the segment of the points whose
 -- coordinates are d times those of a and b
-abbrev pub on_edge : (S : Signed) → PlanePoint S.ops.carrier → PlanePoint S.ops.carrier → TestPoint S.ops.carrier → Bool
+abbrev pub on_edge : (S : Signed) → PlanePoint S.ops.carrier → PlanePoint S.ops.carrier
+    → TestPoint S.ops.carrier → Bool
 on_edge S a b p = on_segment S (scaled S.ops p.d a) (scaled S.ops p.d b) (record { x = p.x; y = p.y })
 
 -- some test point in the open box lies on the closed edge
-abbrev pub EdgeMeetsBox : (S : Signed) → PlanePoint S.ops.carrier → PlanePoint S.ops.carrier → OpenBox S.ops.carrier → Type 0
-EdgeMeetsBox S a b box = (p : TestPoint S.ops.carrier) × IsTestPoint S p × IsTrue (in_box S box p) × IsTrue (on_edge S a b p)
+abbrev pub EdgeMeetsBox : (S : Signed) → PlanePoint S.ops.carrier → PlanePoint S.ops.carrier
+    → OpenBox S.ops.carrier → Type 0
+EdgeMeetsBox S a b box = (p : TestPoint S.ops.carrier) × IsTestPoint S p × IsTrue (in_box S box p)
+    × IsTrue (on_edge S a b p)

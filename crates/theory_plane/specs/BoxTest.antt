@@ -25,7 +25,8 @@ passes_both S f g = is_gt (S.sign f.at_start) && is_gt (S.sign g.at_end) && is_g
 -- whether an edge has a point in both half planes
 abbrev pub meets_both : (S : Signed) → Depths S.ops.carrier → Depths S.ops.carrier → Bool
 meets_both S f g =
-    is_gt (S.sign f.at_start) && is_gt (S.sign g.at_start) || is_gt (S.sign f.at_end) && is_gt (S.sign g.at_end)
+    is_gt (S.sign f.at_start) && is_gt (S.sign g.at_start) || is_gt (S.sign f.at_end)
+    && is_gt (S.sign g.at_end)
     || passes_both S f g || passes_both S g f
 
 -- how far two numbers are below the extent w of a box, and above -w
@@ -43,12 +44,15 @@ abbrev pub depths_above : (R : Ops) → R.carrier → R.carrier → R.carrier �
 depths_above R centre w a b = inside_above R w (difference R a centre) (difference R b centre)
 
 -- whether an edge has a point in each two of four half planes
-abbrev pub meets_each_two : (S : Signed) → Depths S.ops.carrier → Depths S.ops.carrier → Depths S.ops.carrier → Depths S.ops.carrier → Bool
+abbrev pub meets_each_two : (S : Signed) → Depths S.ops.carrier → Depths S.ops.carrier → Depths S.ops.carrier
+    → Depths S.ops.carrier → Bool
 meets_each_two S f g h k =
-    meets_both S f g && meets_both S f h && meets_both S f k && meets_both S g h && meets_both S g k && meets_both S h k
+    meets_both S f g && meets_both S f h && meets_both S f k && meets_both S g h && meets_both S g k
+    && meets_both S h k
 
 -- the case analysis of the program
-abbrev pub box_test : (S : Signed) → PlanePoint S.ops.carrier → PlanePoint S.ops.carrier → OpenBox S.ops.carrier → Bool
+abbrev pub box_test : (S : Signed) → PlanePoint S.ops.carrier → PlanePoint S.ops.carrier
+    → OpenBox S.ops.carrier → Bool
 box_test S a b box =
     let w = S.ops.int (pos box.w) in
     let h = S.ops.int (pos box.h) in

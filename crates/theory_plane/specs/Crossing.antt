@@ -8,7 +8,8 @@ use Rattle.theory_plane.specs.Plane.{PlanePoint, TestPoint, side}
 
 -- 1 if d Y(a) ≤ y < d Y(b) and p is strictly left of a→b; -1 if d Y(b) ≤ y < d Y(a) and p is strictly right
 -- of it; otherwise 0
-abbrev pub crossing : (S : Signed) → PlanePoint S.ops.carrier → PlanePoint S.ops.carrier → TestPoint S.ops.carrier → ℤ
+abbrev pub crossing : (S : Signed) → PlanePoint S.ops.carrier → PlanePoint S.ops.carrier
+    → TestPoint S.ops.carrier → ℤ
 crossing S a b p =
     let ya = S.ops.mul p.d a.y in
     let yb = S.ops.mul p.d b.y in
@@ -20,10 +21,12 @@ crossing S a b p =
 -- which side the point lies
 abbrev pub crossing_of : Bool → Bool → Ordering → ℤ
 crossing_of starts_above ends_above side =
-    cond (not starts_above && ends_above && is_gt side) (pos 1) (cond (not ends_above && starts_above && is_lt side) (negsuc 0) (pos 0))
+    cond (not starts_above && ends_above && is_gt side) (pos 1)
+    (cond (not ends_above && starts_above && is_lt side) (negsuc 0) (pos 0))
 
 -- the sum over the edges from cur along the vertices and back to first
-abbrev pub count_from : (S : Signed) → TestPoint S.ops.carrier → PlanePoint S.ops.carrier → PlanePoint S.ops.carrier → List (PlanePoint S.ops.carrier) → ℤ
+abbrev pub count_from : (S : Signed) → TestPoint S.ops.carrier → PlanePoint S.ops.carrier
+    → PlanePoint S.ops.carrier → List (PlanePoint S.ops.carrier) → ℤ
 count_from S p first cur [] = crossing S cur first p
 count_from S p first cur (v ∷ vs) = crossing S cur v p +ℤ count_from S p first v vs
 

@@ -27,8 +27,12 @@ test_point R z = record { x = z.x; y = z.y; d = R.int (pos 1) }
 -- edge a→b, negative if it is strictly right
 abbrev pub side : (R : Ops) → PlanePoint R.carrier → PlanePoint R.carrier → TestPoint R.carrier → R.carrier
 side R a b p =
-    difference R (R.mul (difference R b.x a.x) (difference R p.y (R.mul p.d a.y))) (R.mul (difference R b.y a.y) (difference R p.x (R.mul p.d a.x)))
+    difference R (R.mul (difference R b.x a.x) (difference R p.y (R.mul p.d a.y)))
+    (R.mul (difference R b.y a.y) (difference R p.x (R.mul p.d a.x)))
 
 -- the orientation of three points: positive if c is strictly left of a→b, so that a, b, c turn left
-abbrev pub orientation : (R : Ops) → PlanePoint R.carrier → PlanePoint R.carrier → PlanePoint R.carrier → R.carrier
-orientation R a b c = difference R (R.mul (difference R b.x a.x) (difference R c.y a.y)) (R.mul (difference R b.y a.y) (difference R c.x a.x))
+abbrev pub orientation : (R : Ops) → PlanePoint R.carrier → PlanePoint R.carrier → PlanePoint R.carrier
+    → R.carrier
+orientation R a b c =
+    difference R (R.mul (difference R b.x a.x) (difference R c.y a.y))
+    (R.mul (difference R b.y a.y) (difference R c.x a.x))

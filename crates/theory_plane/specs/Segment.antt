@@ -15,7 +15,8 @@ abbrev pub between : (S : Signed) → S.ops.carrier → S.ops.carrier → S.ops.
 between S s r t = within S s r t || within S t r s
 
 -- whether p is on the closed segment ab: on its line, and between its ends in X and in Y
-abbrev pub on_segment : (S : Signed) → PlanePoint S.ops.carrier → PlanePoint S.ops.carrier → PlanePoint S.ops.carrier → Bool
+abbrev pub on_segment : (S : Signed) → PlanePoint S.ops.carrier → PlanePoint S.ops.carrier
+    → PlanePoint S.ops.carrier → Bool
 on_segment S a b p =
     is_eq (S.sign (orientation S.ops a b p)) && between S a.x p.x b.x && between S a.y p.y b.y
 
@@ -24,7 +25,8 @@ abbrev pub same_place : (S : Signed) → PlanePoint S.ops.carrier → PlanePoint
 same_place S a b = is_eq (S.sign (difference S.ops b.x a.x)) && is_eq (S.sign (difference S.ops b.y a.y))
 
 -- whether the edge c→d lies along a→b: c differs from d, d is on the segment ab, and c is on the segment ad
-abbrev pub along : (S : Signed) → PlanePoint S.ops.carrier → PlanePoint S.ops.carrier → PlanePoint S.ops.carrier → PlanePoint S.ops.carrier → Bool
+abbrev pub along : (S : Signed) → PlanePoint S.ops.carrier → PlanePoint S.ops.carrier
+    → PlanePoint S.ops.carrier → PlanePoint S.ops.carrier → Bool
 along S a b c d = not (same_place S c d) && on_segment S a b d && on_segment S a d c
 
 -- p is a mean of a and b: (i + j) p = i a + j b, for non-negative weights i and j that are not both 0

@@ -42,17 +42,21 @@ abbrev pub turns_left : (S : Signed) → Triangle (PlanePoint S.ops.carrier) →
 turns_left S t = is_gt (S.sign (orientation S.ops t.a t.b t.c))
 
 -- whether v is on the line along a→b or to its right
-abbrev pub right_of : (S : Signed) → PlanePoint S.ops.carrier → PlanePoint S.ops.carrier → PlanePoint S.ops.carrier → Bool
+abbrev pub right_of : (S : Signed) → PlanePoint S.ops.carrier → PlanePoint S.ops.carrier
+    → PlanePoint S.ops.carrier → Bool
 right_of S a b v = not (is_gt (S.sign (orientation S.ops a b v)))
 
 -- whether the whole triangle is on the line along a→b or to its right
-abbrev pub beyond : (S : Signed) → PlanePoint S.ops.carrier → PlanePoint S.ops.carrier → Triangle (PlanePoint S.ops.carrier) → Bool
+abbrev pub beyond : (S : Signed) → PlanePoint S.ops.carrier → PlanePoint S.ops.carrier
+    → Triangle (PlanePoint S.ops.carrier) → Bool
 beyond S a b t = right_of S a b t.a && right_of S a b t.b && right_of S a b t.c
 
 -- whether the whole of u is on the line along an edge of t or to its right
-abbrev pub beyond_an_edge : (S : Signed) → Triangle (PlanePoint S.ops.carrier) → Triangle (PlanePoint S.ops.carrier) → Bool
+abbrev pub beyond_an_edge : (S : Signed) → Triangle (PlanePoint S.ops.carrier)
+    → Triangle (PlanePoint S.ops.carrier) → Bool
 beyond_an_edge S t u = beyond S t.a t.b u || beyond S t.b t.c u || beyond S t.c t.a u
 
 -- whether an edge of one of the two has the whole other one on it or to its right
-abbrev pub separated : (S : Signed) → Triangle (PlanePoint S.ops.carrier) → Triangle (PlanePoint S.ops.carrier) → Bool
+abbrev pub separated : (S : Signed) → Triangle (PlanePoint S.ops.carrier)
+    → Triangle (PlanePoint S.ops.carrier) → Bool
 separated S t u = beyond_an_edge S t u || beyond_an_edge S u t

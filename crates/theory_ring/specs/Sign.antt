@@ -72,4 +72,7 @@ signed_root_two = record { ops = root_two integers; sign = λ (r : Pair ℤ). su
 
 -- Z[φ]: twice a + bφ is (2a + b) + b√5
 abbrev pub signed_golden : Signed
-signed_golden = record { ops = golden integers; sign = λ (r : Pair ℤ). surd_sign (pos 5) (pos 2 *ℤ r.a +ℤ r.b) r.b }
+signed_golden = record {
+  ops = golden integers;
+  sign = λ (r : Pair ℤ). surd_sign (pos 5) (pos 2 *ℤ r.a +ℤ r.b) r.b;
+}

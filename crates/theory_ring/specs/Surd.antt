@@ -12,7 +12,10 @@ abbrev pub root_two : Ops → Ops
 root_two R = record {
   carrier = Pair R.carrier;
   add = λ (r : Pair R.carrier) (s : Pair R.carrier). record { a = R.add r.a s.a; b = R.add r.b s.b };
-  mul = λ (r : Pair R.carrier) (s : Pair R.carrier). record { a = R.add (R.mul r.a s.a) (R.mul (R.int (pos 2)) (R.mul r.b s.b)); b = R.add (R.mul r.a s.b) (R.mul r.b s.a) };
+  mul = λ (r : Pair R.carrier) (s : Pair R.carrier). record {
+    a = R.add (R.mul r.a s.a) (R.mul (R.int (pos 2)) (R.mul r.b s.b));
+    b = R.add (R.mul r.a s.b) (R.mul r.b s.a);
+  };
   neg = λ (r : Pair R.carrier). record { a = R.neg r.a; b = R.neg r.b };
   int = λ n. record { a = R.int n; b = R.int (pos 0) };
 }
@@ -22,7 +25,10 @@ abbrev pub golden : Ops → Ops
 golden R = record {
   carrier = Pair R.carrier;
   add = λ (r : Pair R.carrier) (s : Pair R.carrier). record { a = R.add r.a s.a; b = R.add r.b s.b };
-  mul = λ (r : Pair R.carrier) (s : Pair R.carrier). record { a = R.add (R.mul r.a s.a) (R.mul r.b s.b); b = R.add (R.add (R.mul r.a s.b) (R.mul r.b s.a)) (R.mul r.b s.b) };
+  mul = λ (r : Pair R.carrier) (s : Pair R.carrier). record {
+    a = R.add (R.mul r.a s.a) (R.mul r.b s.b);
+    b = R.add (R.add (R.mul r.a s.b) (R.mul r.b s.a)) (R.mul r.b s.b);
+  };
   neg = λ (r : Pair R.carrier). record { a = R.neg r.a; b = R.neg r.b };
   int = λ n. record { a = R.int n; b = R.int (pos 0) };
 }

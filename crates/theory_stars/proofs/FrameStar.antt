@@ -20,7 +20,7 @@ use Rattle.theory_dissection.proofs.RuleAddresses.{lowest_exists}
 use Rattle.theory_frames.specs.Frame.{at_level, frame_tiles, IsTileOf, lifted_in}
 use Rattle.theory_windows.specs.Distinct.{AreDistinct}
 use Rattle.theory_windows.specs.GrowingPatch.{IsOfDepth}
-use Rattle.theory_windows.specs.FramePatch.{frame_patch, growing_frame, level_in, lifted_tile, in_frame, line_of}
+use Rattle.theory_windows.specs.FramePatch.{frame_patch, growing_frame, level_in, tile_of_ancestor, in_frame, line_of}
 use Rattle.theory_windows.specs.FrameLaws.{IsEdgeInFrame}
 use Rattle.theory_windows.specs.FrameSearch.{IsGrownCrossing}
 use Rattle.theory_windows.specs.Outlines.{edges, is_reverse}
@@ -30,7 +30,7 @@ use Rattle.theory_windows.proofs.FrameEdges.{beside, reverse_law}
 use Rattle.theory_windows.proofs.GrownCrossings.{grown-crossing}
 use Rattle.theory_windows.proofs.Members.{among-map}
 use Rattle.theory_windows.proofs.Renamed.{lifted-tile, renamed, further}
-use Rattle.theory_stars.specs.Corners.{Corner, IsCornerAt, edge_into, IsNext, Turns, last_corner, IsTurn, tiles_of}
+use Rattle.theory_stars.specs.Corners.{Corner, IsCornerAt, edge_into, IsNext, Turns, last_corner, IsTurn, corner_tiles}
 use Rattle.theory_stars.specs.GrownStar.{IsCornerOfDepth, IsStar}
 use Rattle.theory_stars.specs.FrameStar.{corner_named, lifted_corner, AreOfDepth, IsFrameStar, AreAtVertex}
 
@@ -60,13 +60,13 @@ module _ (T : Setting) where
       OfDepth = IsOfDepth S (Placed A) (growing_frame P refused r f) n
 
       -- a tile of depth n is of the frame there where it is of depth n lifted
-      of-fine : (x : Placed A) → depth x.address ≡ n → IsOfDepth S (Placed A) (growing_frame P refused r f) n (lifted_tile f x) → Fine x
+      of-fine : (x : Placed A) → depth x.address ≡ n → IsOfDepth S (Placed A) (growing_frame P refused r f) n (tile_of_ancestor f x) → Fine x
       of-fine x deep h =
-          let u = (lift_law P W T.accepted f fits refused n within (lifted_tile f x)).0 h in
+          let u = (lift_law P W T.accepted f fits refused n within (tile_of_ancestor f x)).0 h in
           subst Fine (sym (lifted-one T f fits refused n within x u.0 deep (fine-deep T f fits refused n within u.0 u.1) u.2)) u.1
 
-      to-depth : (x : Placed A) → Fine x → IsOfDepth S (Placed A) (growing_frame P refused r f) n (lifted_tile f x)
-      to-depth x i = (lift_law P W T.accepted f fits refused n within (lifted_tile f x)).1 (x, i, refl)
+      to-depth : (x : Placed A) → Fine x → IsOfDepth S (Placed A) (growing_frame P refused r f) n (tile_of_ancestor f x)
+      to-depth x i = (lift_law P W T.accepted f fits refused n within (tile_of_ancestor f x)).1 (x, i, refl)
 
       corner-one : (c d : CornerOf) → depth c.tile.address ≡ n → depth d.tile.address ≡ n → lifted_corner f c ≡ lifted_corner f d → c ≡ d
       corner-one c d g h e = λ i. record { tile = same i; vertex = (e i).vertex }
@@ -88,13 +88,14 @@ module _ (T : Setting) where
         corner-depth c h = let k = to-depth c.tile h.0 in ((k.0, h.1), k.1)
 
         -- ---- a star
-        tiles-distinct : (cs : List CornerOf) → AreDistinct (tiles_of (map (lifted_corner f) cs)) → AreDistinct (tiles_of cs)
+        tiles-distinct : (cs : List CornerOf) → AreDistinct (corner_tiles (map (lifted_corner f) cs)) → AreDistinct (corner_tiles cs)
         tiles-distinct [] d = tt
         tiles-distinct (c ∷ cs) d = (λ i. absurd (d.0 (among cs i)), tiles-distinct cs d.1)
           where
-            among : (bs : List CornerOf) → IsAmong c.tile (tiles_of bs) → IsAmong (lifted_tile f c.tile) (tiles_of (map (lifted_corner f) bs))
+            among : (bs : List CornerOf) → IsAmong c.tile (corner_tiles bs)
+                → IsAmong (tile_of_ancestor f c.tile) (corner_tiles (map (lifted_corner f) bs))
             among [] i = elim i [ ]
-            among (b ∷ bs) (inl e) = inl (ap (lifted_tile f) e)
+            among (b ∷ bs) (inl e) = inl (ap (tile_of_ancestor f) e)
             among (b ∷ bs) (inr i) = inr (among bs i)
 
         next-fine : (c d : CornerOf) → depth d.tile.address ≡ n → AtDepth (lifted_corner f d)
@@ -169,13 +170,13 @@ module _ (T : Setting) where
               each = ((u.1, subst (λ (t : Placed A). slice_get (tile_polygon P r (λ z. z) t) c.vertex ≡ Some v) u.2 h.0.0.1), more.each);
             }
 
-        pub frame-corners : (corners : List CornerOf) → AreDistinct (tiles_of corners) → AllByRecursion AtDepth corners
+        pub frame-corners : (corners : List CornerOf) → AreDistinct (corner_tiles corners) → AllByRecursion AtDepth corners
             → (fine : List CornerOf) × (length fine ≡ length corners) × AreAtVertex P r (at_level f n) v fine
         frame-corners corners d h =
             let u = fine-corners corners h in (
               u.fine,
               sym (length-map u.fine (lifted_corner f)) ∙ ap length u.are,
-              record { distinct = tiles-distinct u.fine (subst (λ cs. AreDistinct (tiles_of cs)) (sym u.are) d); each = u.each },
+              record { distinct = tiles-distinct u.fine (subst (λ cs. AreDistinct (corner_tiles cs)) (sym u.are) d); each = u.each },
             )
 
     -- ---- the next corner

@@ -17,7 +17,7 @@ use Rattle.theory_windows.specs.GrowingPatch.{GrowingPatch, IsInner}
 use Rattle.theory_windows.specs.Patch.{HasAcross}
 use Rattle.theory_windows.proofs.Members.{among-map, no-more}
 use Rattle.theory_windows.proofs.Reverses.{reverse-is}
-use Rattle.theory_stars.specs.Corners.{Corner, IsCornerAt, edge_into, IsNext, Turns, last_corner, IsTurn, tiles_of}
+use Rattle.theory_stars.specs.Corners.{Corner, IsCornerAt, edge_into, IsNext, Turns, last_corner, IsTurn, corner_tiles}
 use Rattle.theory_stars.specs.Round.{IsRound, IsSimplyDissected}
 use Rattle.theory_stars.specs.EnoughAt.{IsEnoughAt}
 use Rattle.theory_stars.specs.GrownStar.{IsCornerOfDepth, deepest, IsStar, StarAnswers, StarGoesOn, DepthCause, CountCause, HasAtMost, StarEnds, StarIsWhole}
@@ -114,7 +114,7 @@ module _ (S : Signed) (L : Laws S.ops) (O : OrderLaws S) {T : Type 0} (F : Growi
       -- no depth from there on has an edge with v on its boundary
       stays : (k : ℕ) → deepest S T F m others ≤ k → IsEnoughAt S T F v k
       stays k deep t h e i on =
-          let a : HasAcross S T F.patch (tiles_of (base ∷ others)) e = across-of-edge S L O whole F.patch D v
+          let a : HasAcross S T F.patch (corner_tiles (base ∷ others)) e = across-of-edge S L O whole F.patch D v
           base at_base.0 others turn t h.0 e i on in
           let c = among-map (λ (c : Corner T). c.tile) a.0 (base ∷ others) a.2 in (
             a.0,
@@ -133,13 +133,13 @@ module _ (S : Signed) (L : Laws S.ops) (O : OrderLaws S) {T : Type 0} (F : Growi
 
       at_most : HasAtMost S T F v (length (base ∷ others))
       at_most cs distinct at =
-          let h = no-more (tiles_of cs) (tiles_of (base ∷ others)) distinct found in
+          let h = no-more (corner_tiles cs) (corner_tiles (base ∷ others)) distinct found in
           omega (arith, h, length-map cs (λ (c : Corner T). c.tile), length-map (base ∷ others) (λ (c : Corner T). c.tile))
         where
-          found : (t : T) → IsAmong t (tiles_of cs) → IsAmong t (tiles_of (base ∷ others))
+          found : (t : T) → IsAmong t (corner_tiles cs) → IsAmong t (corner_tiles (base ∷ others))
           found t i =
               let c = among-map (λ (c : Corner T). c.tile) t cs i in
-              subst (λ u. IsAmong u (tiles_of (base ∷ others))) (sym c.2)
+              subst (λ u. IsAmong u (corner_tiles (base ∷ others))) (sym c.2)
               (IsAmong-map (λ (c : Corner T). c.tile) c.0 (base ∷ others)
               (the_round.all c.0 (AllByRecursion-among (IsCornerAt S T F.patch v) c.0 cs c.1 at)))
 
@@ -174,7 +174,7 @@ module _ (S : Signed) (L : Laws S.ops) (O : OrderLaws S) {T : Type 0} (F : Growi
 
     pub distinct-at : (base : Corner T) → IsCornerAt S T F.patch v base → (others : List (Corner T))
         → Turns S T F.patch base others → (IsAmong base others → ⊥)
-        → AreDistinct (tiles_of (base ∷ others)) × AllByRecursion (IsCornerAt S T F.patch v) (base ∷ others)
+        → AreDistinct (corner_tiles (base ∷ others)) × AllByRecursion (IsCornerAt S T F.patch v) (base ∷ others)
     distinct-at base h others t first = (
       distinct-tiles S L O F.patch D v (base ∷ others) (turn-at S L O F.patch D v base others h t)
           (distinct-turn S L O F.patch D v base others h t first),

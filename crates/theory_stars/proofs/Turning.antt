@@ -10,7 +10,7 @@ use Rattle.theory_windows.specs.Outlines.{PlaneEdge, edges}
 use Rattle.theory_windows.specs.Patch.{Patch}
 use Rattle.theory_windows.proofs.Members.{among-map}
 use Rattle.theory_windows.proofs.Reverses.{reverse-is, reverse-turned}
-use Rattle.theory_stars.specs.Corners.{Corner, IsCornerAt, edge_into, IsNext, Turns, last_corner, tiles_of}
+use Rattle.theory_stars.specs.Corners.{Corner, IsCornerAt, edge_into, IsNext, Turns, last_corner, corner_tiles}
 use Rattle.theory_stars.specs.Round.{IsSimplyDissected}
 use Rattle.theory_stars.proofs.CornerNumbers.{some-same, one-number, out-start, into-edge}
 
@@ -122,7 +122,7 @@ module _ (S : Signed) (L : Laws S.ops) (O : OrderLaws S) {T : Type 0} (P : Patch
   distinct-turn base [] h t first = (first, tt)
   distinct-turn base (c ∷ cs) h t first = (first, distinct-from base c cs h (next-at base c h t.0) t.0 t.1 first)
 
-  pub distinct-tiles : (cs : List (Corner T)) → ((c : Corner T) → IsAmong c cs → At c) → AreDistinct cs → AreDistinct (tiles_of cs)
+  pub distinct-tiles : (cs : List (Corner T)) → ((c : Corner T) → IsAmong c cs → At c) → AreDistinct cs → AreDistinct (corner_tiles cs)
   distinct-tiles [] at d = tt
   distinct-tiles (c ∷ cs) at d = (
     λ i. twice (among-map (λ (b : Corner T). b.tile) c.tile cs i),

@@ -18,7 +18,7 @@ use Rattle.theory_windows.proofs.CoveredBox.{has_all}
 use Rattle.theory_windows.proofs.Members.{among-map, goes-to}
 use Rattle.theory_windows.proofs.Meeting.{polygon_meets}
 use Rattle.theory_windows.proofs.Reverses.{reverse-turned}
-use Rattle.theory_stars.specs.Corners.{Corner, IsCornerAt, IsNext, last_corner, IsTurn, tiles_of}
+use Rattle.theory_stars.specs.Corners.{Corner, IsCornerAt, IsNext, last_corner, IsTurn, corner_tiles}
 use Rattle.theory_stars.specs.Round.{IsRound, IsSimplyDissected, TurnTheorem}
 use Rattle.theory_stars.proofs.CornerNumbers.{some-same, out-edge, into-only, out-only}
 use Rattle.theory_stars.proofs.Turning.{one-corner, turn-at, before, after, last-among, distinct-turn, distinct-tiles}
@@ -35,7 +35,7 @@ module _ (S : Signed) (L : Laws S.ops) (O : OrderLaws S) (whole : DividesWhole S
   corners = base ∷ others
 
   abbrev found : List T
-  found = tiles_of corners
+  found = corner_tiles corners
 
   corner-at : (c : Corner T) → IsAmong c corners → IsCornerAt S T P v c
   corner-at c i = turn-at S L O P D v base others at_base turn.in_order c i

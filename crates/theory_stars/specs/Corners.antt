@@ -42,10 +42,11 @@ last_corner c [] = c
 last_corner c (d ∷ ds) = last_corner d ds
 
 -- from the base in turning order, and back to it for the first time
-pub record IsTurn (S : Signed) (T : Type 0) (P : Patch S T) (base : Corner T) (others : List (Corner T)) : Type 0 where
+pub record IsTurn (S : Signed) (T : Type 0) (P : Patch S T) (base : Corner T)
+    (others : List (Corner T)) : Type 0 where
   pub in_order : Turns S T P base others
   pub back : IsNext S T P (last_corner base others) base
   pub first_time : ¬ IsAmong base others
 
-abbrev pub tiles_of : {T : Type 0} → List (Corner T) → List T
-tiles_of corners = map (λ c. c.tile) corners
+abbrev pub corner_tiles : {T : Type 0} → List (Corner T) → List T
+corner_tiles corners = map (λ c. c.tile) corners

@@ -8,7 +8,8 @@ use Rattle.theory_substitution.specs.Rule.{Rule}
 use Rattle.theory_substitution.specs.RuleParts.{child_of}
 
 -- one digit finer: with the child's turn k and shift v, (T, S) becomes (T + k modulo the order, λS + ζ^T v)
-abbrev pub finer : (P : Points) → Rule P.ring.carrier → Motion P.ring.carrier → Motion P.ring.carrier → Motion P.ring.carrier
+abbrev pub finer : (P : Points) → Rule P.ring.carrier → Motion P.ring.carrier → Motion P.ring.carrier
+    → Motion P.ring.carrier
 finer P r m c = record {
   turn = (m.turn + c.turn) % P.order;
   shift = P.ring.add (P.ring.mul r.factor m.shift) (P.ring.mul (power P.ring P.zeta m.turn) c.shift);

@@ -23,23 +23,29 @@ twice_squared_length P z = P.x (P.ring.mul z (P.conj z))
 
 -- whether two differences of points have equal squared lengths
 abbrev pub same_length : (P : Points) → P.ring.carrier → P.ring.carrier → Bool
-same_length P d e = is_eq (P.real.sign (difference P.real.ops (twice_squared_length P d) (twice_squared_length P e)))
+same_length P d e = is_eq
+    (P.real.sign (difference P.real.ops (twice_squared_length P d) (twice_squared_length P e)))
 
 -- f keeps the sign of each orientation, so left turns too, what lies on a segment, and which segments are
 -- equally long
 pub record Keeps (P : Points) (f : P.ring.carrier → P.ring.carrier) : Type 0 where
-  pub turns : (a b c : P.ring.carrier) → P.real.sign (orientation P.real.ops (plane_point P (f a)) (plane_point P (f b)) (plane_point P (f c)))
+  pub turns : (a b c : P.ring.carrier)
+      → P.real.sign (orientation P.real.ops (plane_point P (f a)) (plane_point P (f b)) (plane_point P (f c)))
       ≡ P.real.sign (orientation P.real.ops (plane_point P a) (plane_point P b) (plane_point P c))
-  pub segments : (a b p : P.ring.carrier) → on_segment P.real (plane_point P (f a)) (plane_point P (f b)) (plane_point P (f p))
+  pub segments : (a b p : P.ring.carrier)
+      → on_segment P.real (plane_point P (f a)) (plane_point P (f b)) (plane_point P (f p))
       ≡ on_segment P.real (plane_point P a) (plane_point P b) (plane_point P p)
-  pub equal_lengths : (a b c d : P.ring.carrier) → same_length P (difference P.ring (f b) (f a)) (difference P.ring (f d) (f c))
+  pub equal_lengths : (a b c d : P.ring.carrier)
+      → same_length P (difference P.ring (f b) (f a)) (difference P.ring (f d) (f c))
       ≡ same_length P (difference P.ring b a) (difference P.ring d c)
 
 -- the squared length |l|² is above 1; l may be real or turn the plane
 abbrev pub IsGrowthFactor : (P : Points) → P.ring.carrier → Type 0
-IsGrowthFactor P l = IsPositive P.real (difference P.real.ops (twice_squared_length P l) (P.real.ops.int (pos 2)))
+IsGrowthFactor P l = IsPositive P.real
+    (difference P.real.ops (twice_squared_length P l) (P.real.ops.int (pos 2)))
 
 -- every edge between two different points has test points strictly right of it, arbitrarily close to its
 -- middle
 abbrev pub PointsRightOfEdges : Points → Type 0
-PointsRightOfEdges P = (a b : P.ring.carrier) → (¬ a ≡ b) → (n : ℕ) → 0 < n → HasPointRight P.real (plane_point P a) (plane_point P b) n
+PointsRightOfEdges P = (a b : P.ring.carrier) → (¬ a ≡ b) → (n : ℕ) → 0 < n
+    → HasPointRight P.real (plane_point P a) (plane_point P b) n

@@ -26,12 +26,17 @@ pub record PointLaws (P : Points) : Type 0 where
   pub of_real : Laws P.real.ops
   pub of_order : OrderLaws P.real
   pub cosine : P.real.ops.carrier
-  pub cosine_below : P.real.sign (difference P.real.ops (P.real.ops.int (pos 4)) (P.real.ops.mul cosine cosine)) ≡ Greater
+  pub cosine_below : P.real.sign
+      (difference P.real.ops (P.real.ops.int (pos 4)) (P.real.ops.mul cosine cosine)) ≡ Greater
   pub x-add : (a b : P.ring.carrier) → P.x (P.ring.add a b) ≡ P.real.ops.add (P.x a) (P.x b)
   pub y-add : (a b : P.ring.carrier) → P.y (P.ring.add a b) ≡ P.real.ops.add (P.y a) (P.y b)
   pub x-mul : (l z : P.ring.carrier) → P.real.ops.mul (P.real.ops.int (pos 2)) (P.x (P.ring.mul l z))
-      ≡ difference P.real.ops (P.real.ops.mul (P.x l) (P.x z)) (P.real.ops.mul (difference P.real.ops (P.real.ops.int (pos 4)) (P.real.ops.mul cosine cosine)) (P.real.ops.mul (P.y l) (P.y z)))
-  pub y-mul : (l z : P.ring.carrier) → P.real.ops.mul (P.real.ops.int (pos 2)) (P.y (P.ring.mul l z)) ≡ P.real.ops.add (P.real.ops.mul (P.x l) (P.y z)) (P.real.ops.mul (P.y l) (P.x z))
+      ≡ difference P.real.ops (P.real.ops.mul (P.x l) (P.x z))
+      (P.real.ops.mul (difference P.real.ops (P.real.ops.int (pos 4)) (P.real.ops.mul cosine cosine))
+      (P.real.ops.mul (P.y l) (P.y z)))
+  pub y-mul : (l z : P.ring.carrier)
+      → P.real.ops.mul (P.real.ops.int (pos 2)) (P.y (P.ring.mul l z))
+      ≡ P.real.ops.add (P.real.ops.mul (P.x l) (P.y z)) (P.real.ops.mul (P.y l) (P.x z))
   pub x-zeta : P.x P.zeta ≡ cosine
   pub y-zeta : P.y P.zeta ≡ P.real.ops.int (pos 1)
   pub x-conj : (z : P.ring.carrier) → P.x (P.conj z) ≡ P.x z

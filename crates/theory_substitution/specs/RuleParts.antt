@@ -45,7 +45,16 @@ abbrev pub map_child : {A B : Type 0} → (A → B) → Child A → Child B
 map_child f c = record { kind = c.kind; motion = record { turn = c.motion.turn; shift = f c.motion.shift } }
 
 abbrev pub map_kind : {A B : Type 0} → (A → B) → Kind A → Kind B
-map_kind f k = record { vertices = map f k.vertices; edges = k.edges; children = map (map_child f) k.children }
+map_kind f k = record {
+  vertices = map f k.vertices;
+  edges = k.edges;
+  children = map (map_child f) k.children;
+}
 
 abbrev pub map_rule : {A B : Type 0} → (A → B) → Rule A → Rule B
-map_rule f r = record { factor = f r.factor; glue = r.glue; types = r.types; kinds = map (map_kind f) r.kinds }
+map_rule f r = record {
+  factor = f r.factor;
+  glue = r.glue;
+  types = r.types;
+  kinds = map (map_kind f) r.kinds;
+}

@@ -19,9 +19,13 @@ inflated P r n m = record { turn = m.turn; shift = P.ring.mul (power P.ring r.fa
 
 -- a tile of child number i of kind k, as a tile of the supertile of kind k and depth n + 1: one coarse digit
 -- more, and moved as the child is
-abbrev pub lifted : (P : Points) → Rule P.ring.carrier → ℕ → ℕ → ℕ → Child P.ring.carrier → Placed P.ring.carrier → Placed P.ring.carrier
+abbrev pub lifted : (P : Points) → Rule P.ring.carrier → ℕ → ℕ → ℕ → Child P.ring.carrier
+    → Placed P.ring.carrier → Placed P.ring.carrier
 lifted P r k n i c t = record {
-  address = record { kind = t.address.kind; digits = t.address.digits ++ record { child = i; parent = k } ∷ [] };
+  address = record {
+    kind = t.address.kind;
+    digits = t.address.digits ++ record { child = i; parent = k } ∷ [];
+  };
   motion = followed P t.motion (inflated P r n c.motion);
 }
 
@@ -29,9 +33,13 @@ lifted P r k n i c t = record {
 -- supertile in order
 abbrev pub supertile : (P : Points) → Rule P.ring.carrier → ℕ → ℕ → List (Placed P.ring.carrier)
 supertile P r k zero = record { address = record { kind = k; digits = [] }; motion = still P } ∷ []
-supertile P r k (suc n) = flat_map (λ c. map (lifted P r k n c.0 c.1) (supertile P r c.1.kind n)) (enumerate_from 0 (children_of r k))
+supertile P r k (suc n) =
+    flat_map (λ c. map (lifted P r k n c.0 c.1) (supertile P r c.1.kind n))
+    (enumerate_from 0 (children_of r k))
 
 -- the motion is listed with the address in the list of its supertile's tiles, and no other is
-pub record StandsBeside (P : Points) (r : Rule P.ring.carrier) (a : Address) (m : Motion P.ring.carrier) : Type 0 where
+pub record StandsBeside (P : Points) (r : Rule P.ring.carrier) (a : Address)
+    (m : Motion P.ring.carrier) : Type 0 where
   pub among : IsAmong (record { address = a; motion = m }) (supertile P r (top_kind a) (depth a))
-  pub alone : (g : Motion P.ring.carrier) → IsAmong (record { address = a; motion = g }) (supertile P r (top_kind a) (depth a)) → g ≡ m
+  pub alone : (g : Motion P.ring.carrier)
+      → IsAmong (record { address = a; motion = g }) (supertile P r (top_kind a) (depth a)) → g ≡ m

@@ -20,12 +20,17 @@ factor_power t level = power (points_of t.order).ring t.rule.factor level
 
 -- the first two values looked at at a level: the power of the factor, and the ancestor's shift
 abbrev pub values_of_level : (t : Tiling) → Address → ℕ → List (NumberOf t.order)
-values_of_level t f level = factor_power t level ∷ ((ancestor_motion (points_of t.order) t.rule f level).shift ∷ [])
+values_of_level t f level =
+    factor_power t level ∷ ((ancestor_motion (points_of t.order) t.rule f level).shift ∷ [])
 
 -- then its vertices
 abbrev pub vertices_of_ancestor : (t : Tiling) → Address → ℕ → List (NumberOf t.order)
-vertices_of_ancestor t f level = outline (points_of t.order) t.rule (top_kind (at_level f level)) (factor_power t level) (ancestor_motion (points_of t.order) t.rule f level)
+vertices_of_ancestor t f level =
+    outline (points_of t.order) t.rule (top_kind (at_level f level)) (factor_power t level)
+    (ancestor_motion (points_of t.order) t.rule f level)
 
 -- and those that the search in it looks at
 abbrev pub values_in : (t : Tiling) → Address → NumberOf t.order → ℕ → List (NumberOf t.order)
-values_in t f p level = values_looked_at (points_of t.order) t.rule (top_kind (at_level f level)) level (ancestor_motion (points_of t.order) t.rule f level) p
+values_in t f p level =
+    values_looked_at (points_of t.order) t.rule (top_kind (at_level f level)) level
+    (ancestor_motion (points_of t.order) t.rule f level) p

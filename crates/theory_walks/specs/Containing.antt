@@ -25,4 +25,5 @@ IsOnlyHolder t f p x = IsOnlyTileHolding t (top_kind (whole f)) (length f.digits
 
 -- the first refused value of those looked at for the point, from the base outward and up to level 64
 abbrev pub first_refused_outward : (t : Tiling) → FrameValue → NumberOf t.order → Option (NumberOf t.order)
-first_refused_outward t f p = find (is_refused t.order) (values_outward (points_of t.order) t.rule (whole (at_depth t 64 f)) p 0 65)
+first_refused_outward t f p =
+    find (is_refused t.order) (values_outward (points_of t.order) t.rule (whole (at_depth t 64 f)) p 0 65)

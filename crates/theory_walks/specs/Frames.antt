@@ -19,7 +19,11 @@ whole f = record { kind = f.base.kind; digits = f.digits }
 
 -- the frame of the same base and seed that has a depth, in a tiling
 abbrev pub at_depth : Tiling → ℕ → FrameValue → FrameValue
-at_depth t n f = record { base = f.base; start = f.start; digits = (grown_by (uses_in_order (children t)) (word f.start) (n - depth f.base) f.base).digits }
+at_depth t n f = record {
+  base = f.base;
+  start = f.start;
+  digits = (grown_by (uses_in_order (children t)) (word f.start) (n - depth f.base) f.base).digits;
+}
 
 -- the frame is one of a tiling: its base fits, and its digits are those of its depth
 pub record IsFrameOf (t : Tiling) (f : FrameValue) : Type 0 where

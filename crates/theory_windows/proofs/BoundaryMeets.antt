@@ -19,7 +19,7 @@ use Rattle.theory_substitution.specs.Supertile.{inflated}
 use Rattle.theory_substitution.specs.Placement.{placement}
 use Rattle.theory_substitution.proofs.Addresses.{top_from-append}
 use Rattle.theory_substitution.proofs.Keeping.{motion-keeps, keeps-then}
-use Rattle.theory_edge_to_edge.specs.Contacts.{name_of, tables_of}
+use Rattle.theory_edge_to_edge.specs.Contacts.{edge_name, tables_of}
 use Rattle.theory_edge_to_edge.specs.Edges.{Edge, PlacedEdge, inflated_edge, child_edge}
 use Rattle.theory_edge_to_edge.proofs.ChildEdges.{among-child_edges}
 use Rattle.theory_edge_to_edge.proofs.CutEdges.{cut_parts, boundary_edges, found}
@@ -144,7 +144,7 @@ module _ (T : Setting) (box : OpenBox T.points.real.ops.carrier) where
       contact : contact_of t k s.child s.edge ≡ Some (outer top number)
       contact =
           ((contacts-coherent T).outer_part k s.child s.edge top number).1
-          (part_of-at P r k top number he ∙ slice_get-image name_of s ss number (among-place s ss i).1)
+          (part_of-at P r k top number he ∙ slice_get-image edge_name s ss number (among-place s ss i).1)
 
       met-suc : Met child_kind n s.edge f' → Met k (suc n) top f
       met-suc c = record {

@@ -11,7 +11,7 @@ use Rattle.theory_dissection.proofs.Setting.{Setting}
 use Rattle.theory_dissection.proofs.AcrossTouches.{same}
 use Rattle.theory_dissection.specs.TileEdges.{tile_at}
 use Rattle.theory_windows.specs.GrowingPatch.{IsOfDepth}
-use Rattle.theory_windows.specs.FramePatch.{growing_frame, frame_polygon, lifted_tile}
+use Rattle.theory_windows.specs.FramePatch.{growing_frame, frame_polygon, tile_of_ancestor}
 use Rattle.theory_windows.specs.FrameLaws as frames
 use Rattle.theory_windows.specs.FramePatch as is_frame
 use Rattle.theory_windows.proofs.Window.{known_by_outline}
@@ -53,7 +53,8 @@ module _ (P : Points) (W : PointLaws P) where
       u.is ∙ lifts.named-is (setting T) f fits refused n within u.fine u.deep,
     ),
     λ x. subst (λ (v : Placed P.ring.carrier). IsOfDepth P.real (Placed P.ring.carrier) (growing_frame P refused T.rule f) n v) (sym x.2)
-        (lifts.named-depth (setting T) f fits refused n within (lifted_tile f x.0) (lifts.fine-named (setting T) f fits refused n within x.0 x.1)),
+        (lifts.named-depth (setting T) f fits refused n within (tile_of_ancestor f x.0)
+        (lifts.fine-named (setting T) f fits refused n within x.0 x.1)),
   )
 
   pub named_law : frames.NamedLaw P

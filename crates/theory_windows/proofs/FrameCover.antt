@@ -30,7 +30,7 @@ use Rattle.theory_windows.specs.SearchSteps.{IsStep, IsFinished}
 use Rattle.theory_windows.specs.PatchWindow.{PatchWindow, LiesAcross}
 use Rattle.theory_windows.specs.Refusals.{IsDepthLimit}
 use Rattle.theory_windows.specs.OpenNumbers.{IsEdgeAt}
-use Rattle.theory_windows.specs.FramePatch.{level_in, growing_frame, lifted_tile, in_frame, line_of}
+use Rattle.theory_windows.specs.FramePatch.{level_in, growing_frame, tile_of_ancestor, in_frame, line_of}
 use Rattle.theory_windows.specs.FrameLaws.{IsEdgeInFrame}
 use Rattle.theory_windows.specs.FrameWindow.{IsWindowWithin}
 use Rattle.theory_windows.specs.FrameCover.{IsWindowOn, StateOn, IsRightOn, IsOpenCrossing, IsFrameAnswer}
@@ -148,21 +148,21 @@ module _ (T : Setting) (divides : DividesWhole T.points.real) (f : Address)
   module _ (s : StateOn P) (right : IsRightOn P refused T.accepted f box s) (none : s.open_edges ≡ []) where
     module _ (within : s.depth ≤ depth f) (tiles : List (Placed A)) (distinct : AreDistinct tiles)
         (deep : AllByRecursion (λ (t : Placed A). depth t.address ≡ s.depth) tiles)
-        (members : HaveSameMembers s.found (map (lifted_tile f) tiles)) where
+        (members : HaveSameMembers s.found (map (tile_of_ancestor f) tiles)) where
       end : IsFinished S (Placed A) F box s
       end = finish_right S W.of_real W.of_order divides G s right none
 
-      names-distinct : AreDistinct (map (lifted_tile f) tiles)
-      names-distinct = distinct-map (lifted_tile f) tiles
+      names-distinct : AreDistinct (map (tile_of_ancestor f) tiles)
+      names-distinct = distinct-map (tile_of_ancestor f) tiles
           (λ x y i j e. lifted-one T f on.frame refused s.depth within x y
           (AllByRecursion-among _ x tiles i deep) (AllByRecursion-among _ y tiles j deep) e) distinct
 
       pub frame-answer : IsFrameAnswer P refused r f box s.depth tiles
       frame-answer = record {
         all_that_meet = drawn-to T f on.frame refused s.depth within box tiles deep
-            (drawn_any_order F box s.depth s.found (map (lifted_tile f) tiles) end.drawn names-distinct members);
+            (drawn_any_order F box s.depth s.found (map (tile_of_ancestor f) tiles) end.drawn names-distinct members);
         covers = (covers-lifted T f s.depth box tiles).1
-            (covers_any_order F.patch G.dissected box s.found (map (lifted_tile f) tiles) right.of_patch names-distinct members end.covers);
+            (covers_any_order F.patch G.dissected box s.found (map (tile_of_ancestor f) tiles) right.of_patch names-distinct members end.covers);
         least = λ m start beyond. enough-least T f on.frame refused box m s.depth start (end.least m beyond);
       }
 

@@ -33,7 +33,7 @@ use Rattle.theory_frames.proofs.Frames.{at_level-depth, at_level-fits, kind_at-t
 use Rattle.theory_windows.specs.Outlines.{PlaneEdge, edges, MeetsBox}
 use Rattle.theory_windows.specs.GrowingPatch.{IsOfDepth, IsInner}
 use Rattle.theory_windows.specs.GrownPolygon.{IsOnBoundaryAt, IsWholeOf}
-use Rattle.theory_windows.specs.FramePatch.{growing_frame, frame_polygon, in_frame, lifted_tile, line_of}
+use Rattle.theory_windows.specs.FramePatch.{growing_frame, frame_polygon, in_frame, tile_of_ancestor, line_of}
 use Rattle.theory_windows.specs.FrameLaws.{IsEdgeInFrame}
 use Rattle.theory_windows.proofs.Members.{some-counted}
 use Rattle.theory_windows.proofs.KindEdges as kind
@@ -100,7 +100,7 @@ module _ (T : Setting) where
           = IsAmong-map (moved_tile T (at_level f n)) s.0 (supertile P r k (depth (at_level f n)))
           (subst (λ m. IsAmong s.0 (supertile P r k m)) (sym (at_level-depth f n within))
           s.1.holder.among) in
-          let x : Named T f fits refused n within (lifted_tile f (moved_tile T (at_level f n) s.0))
+          let x : Named T f fits refused n within (tile_of_ancestor f (moved_tile T (at_level f n) s.0))
           = fine-named T f fits refused n within (moved_tile T (at_level f n) s.0) i in (
             in_frame P r f x.fine,
             subst (λ m. IsOfDepth S (Placed A) (growing_frame P refused r f) m (in_frame P r f x.fine)) x.deep (named T f fits refused x.fine x.tile),

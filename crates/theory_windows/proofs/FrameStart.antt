@@ -17,7 +17,7 @@ use Rattle.theory_windows.specs.GrowingPatch.{GrowingPatch}
 use Rattle.theory_windows.specs.EnoughDepth.{IsNotBeyond}
 use Rattle.theory_windows.specs.SearchState.{started}
 use Rattle.theory_windows.specs.PatchWindow.{PatchWindow}
-use Rattle.theory_windows.specs.FramePatch.{level_in, growing_frame, lifted_tile}
+use Rattle.theory_windows.specs.FramePatch.{level_in, growing_frame, tile_of_ancestor}
 use Rattle.theory_windows.specs.FrameCover.{IsWindowOn, IsRightOn, IsLeastHolding}
 use Rattle.theory_windows.proofs.Steps.{start_right}
 use Rattle.theory_windows.proofs.FramePatch.{frame-dissected}
@@ -50,18 +50,18 @@ module _ (T : Setting) (divides : DividesWhole T.points.real) (f : Address)
       → member P.real (tile_polygon P r (λ z. z) t) (test_point P.real.ops (plane_point P centre)) ≡ true
       → IsNotBeyond P.real (Placed A) F box m n
       × (refused t.motion.shift ≡ false → IsRightOn P refused T.accepted f box
-      (started P.real (Placed A) F box n (lifted_tile f t)))
+      (started P.real (Placed A) F box n (tile_of_ancestor f t)))
   frame-start m n least t i holds =
       subst (λ k. IsNotBeyond P.real (Placed A) F box m k
       × (refused t.motion.shift ≡ false → IsRightOn P refused T.accepted f box
-      (started P.real (Placed A) F box k (lifted_tile f t))))
+      (started P.real (Placed A) F box k (tile_of_ancestor f t))))
       (max-is m n (level_in f (lifted_in f t.address)) least.not_below there.1
-      (λ k l lt at. absurd (least.least k l lt ((holder-level T f on.frame (lifted_tile f t) there.0 centre
+      (λ k l lt at. absurd (least.least k l lt ((holder-level T f on.frame (tile_of_ancestor f t) there.0 centre
       holds k (at_most k n (depth f) (below lt) least.within)).1 at))))
-      (start_right P.real W.of_real W.of_order divides G (lifted_tile f t) (record { of_patch = there.0; holds = holds }) m)
+      (start_right P.real W.of_real W.of_order divides G (tile_of_ancestor f t) (record { of_patch = there.0; holds = holds }) m)
     where
-      there : IsOfDepth P.real (Placed A) F n (lifted_tile f t)
-      there = named-depth T f on.frame refused n least.within (lifted_tile f t) (fine-named T f on.frame refused n least.within t i)
+      there : IsOfDepth P.real (Placed A) F n (tile_of_ancestor f t)
+      there = named-depth T f on.frame refused n least.within (tile_of_ancestor f t) (fine-named T f on.frame refused n least.within t i)
 
       below : {x y : ℕ} → x < y → x ≤ y
       below lt = omega arith

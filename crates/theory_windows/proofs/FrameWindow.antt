@@ -12,10 +12,10 @@ use Rattle.theory_substitution.specs.Supertile.{Placed}
 use Rattle.theory_edge_to_edge.specs.Contacts.{tables_of}
 use Rattle.theory_dissection.proofs.Setting.{Setting}
 use Rattle.theory_windows.specs.GrowingPatch.{IsInner}
-use Rattle.theory_windows.specs.EnoughDepth.{IsEnough, AreDrawn, IsLeastEnough}
+use Rattle.theory_windows.specs.EnoughDepth.{IsEnough, AreDrawnAtDepth, IsLeastEnough}
 use Rattle.theory_windows.specs.GrownPolygon.{HoldsWindow}
 use Rattle.theory_windows.specs.Limits.{IsWithinLimits}
-use Rattle.theory_windows.specs.FramePatch.{growing_frame, frame_polygon, lifted_tile}
+use Rattle.theory_windows.specs.FramePatch.{growing_frame, frame_polygon, tile_of_ancestor}
 use Rattle.theory_windows.specs.FrameWindow.{IsLeastDepth, IsWindowWithin}
 use Rattle.theory_windows.proofs.GrownPolygon.{enough_by_polygon}
 use Rattle.theory_windows.proofs.FramePolygon.{frame-whole}
@@ -80,8 +80,8 @@ module _ (T : Setting) where
 
       -- ---- within the limits
       module _ (m limit : ℕ) (start : m ≤ depth f) where
-        same_length : (tiles : List (Placed A)) → length (map (lifted_tile f) tiles) ≡ length tiles
-        same_length tiles = length-map tiles (lifted_tile f)
+        same_length : (tiles : List (Placed A)) → length (map (tile_of_ancestor f) tiles) ≡ length tiles
+        same_length tiles = length-map tiles (tile_of_ancestor f)
 
         abbrev Kept : Placed A → Type 0
         Kept t = refused t.motion.shift ≡ false
@@ -90,12 +90,12 @@ module _ (T : Setting) where
         within-limits h = record {
           depth = h.depth;
           least = least-enough m h.depth start h.least;
-          drawn = map (lifted_tile f) h.drawn;
+          drawn = map (tile_of_ancestor f) h.drawn;
           are_drawn = drawn-from T f fits refused h.depth h.least.within box h.drawn
               (AllByRecursion-from _ h.drawn (λ x i. fine-deep T f fits refused h.depth h.least.within x
               (AllByRecursion-among (Fine T f fits refused h.depth h.least.within) x h.drawn i
               h.all_that_meet.of_patch))) h.all_that_meet;
-          none_refused = AllByRecursion-map Kept (lifted_tile f) h.drawn h.none_refused;
+          none_refused = AllByRecursion-map Kept (tile_of_ancestor f) h.drawn h.none_refused;
           not_too_many = subst (λ k. k ≤ limit) (sym (same_length h.drawn)) h.not_too_many;
         }
 
@@ -109,11 +109,11 @@ module _ (T : Setting) where
               least = least;
               drawn = u.tiles;
               all_that_meet = drawn-to T f fits refused h.depth least.within box u.tiles u.deep
-                  (subst (λ ts. AreDrawn S (Placed A) (growing_frame P refused r f) box h.depth ts) u.are
+                  (subst (λ ts. AreDrawnAtDepth S (Placed A) (growing_frame P refused r f) box h.depth ts) u.are
                   h.are_drawn);
               none_refused = AllByRecursion-from Kept u.tiles (λ x i.
-                  AllByRecursion-among Kept (lifted_tile f x) (map (lifted_tile f) u.tiles)
-                  (IsAmong-map (lifted_tile f) x u.tiles i)
+                  AllByRecursion-among Kept (tile_of_ancestor f x) (map (tile_of_ancestor f) u.tiles)
+                  (IsAmong-map (tile_of_ancestor f) x u.tiles i)
                   (subst (AllByRecursion Kept) u.are h.none_refused));
               not_too_many = subst (λ k. k ≤ limit) (ap (λ (ts : List (Placed A)). length ts) u.are ∙ same_length u.tiles) h.not_too_many;
             }

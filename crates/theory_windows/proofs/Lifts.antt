@@ -22,7 +22,7 @@ use Rattle.theory_frames.specs.Frame.{at_level, motion_beside, frame_tiles, IsTi
 use Rattle.theory_frames.proofs.Frames.{top_from-join, Climbs-split, at_level-depth, at_level-fits, top_kind-split, kind_at-top, kind_at-level, top_is, lifted-whole, lifted-moves_none, StandsInFrame-whole}
 use Rattle.theory_windows.specs.GrowingPatch.{IsOfDepth}
 use Rattle.theory_windows.specs.Level.{level_of, LiftsAreOfDepth}
-use Rattle.theory_windows.specs.FramePatch.{is_same_step, level_in, growing_frame, lifted_tile, in_frame}
+use Rattle.theory_windows.specs.FramePatch.{is_same_step, level_in, growing_frame, tile_of_ancestor, in_frame}
 use Rattle.theory_windows.proofs.Level.{tells-from, lifts_tell}
 use Rattle.theory_windows.proofs.Members.{among-map}
 use Rattle.theory_windows.proofs.FramePatch.{moved_tile}
@@ -165,7 +165,7 @@ module _ (T : Setting) where
           ap (λ (y : Placed A). depth y.address) s.2 ∙ m.depth_is ∙ at_level-depth f n within
 
       -- and are named by their addresses
-      pub fine-named : (x : Placed A) → IsAmong x (frame_tiles P r (at_level f n)) → Named (lifted_tile f x)
+      pub fine-named : (x : Placed A) → IsAmong x (frame_tiles P r (at_level f n)) → Named (tile_of_ancestor f x)
       fine-named x i =
           let s = among-map (moved_tile T (at_level f n)) x (supertile P r (top_kind (at_level f n)) (depth (at_level f n))) i in
           let m = member T (top_kind (at_level f n)) (depth (at_level f n))
@@ -180,7 +180,7 @@ module _ (T : Setting) where
                   ∙ sym (kind_at-level f n within) ∙ ap (kind_at f) (sym deep);
             };
             deep = deep;
-            is = ap (lifted_tile f) s.2
+            is = ap (tile_of_ancestor f) s.2
                 ∙ ap₂ (λ (x : Motion A) (k : ℕ). record {
                   address = lifted_in f s.0.address;
                   motion = followed P x (back P (placement P r (at_level f k).digits));
@@ -195,5 +195,5 @@ module _ (T : Setting) where
         same_top = top_is (child_kinds r) f a (rule-tile f a h) ∙ ap (λ k. top_kind (at_level f k)) deep;
       })).among
 
-      pub named-is : (a : Address) → depth a ≡ n → in_frame P r f a ≡ lifted_tile f (fine_tile f n a)
-      named-is a deep = ap (λ k. lifted_tile f (fine_tile f k a)) deep
+      pub named-is : (a : Address) → depth a ≡ n → in_frame P r f a ≡ tile_of_ancestor f (fine_tile f n a)
+      named-is a deep = ap (λ k. tile_of_ancestor f (fine_tile f k a)) deep

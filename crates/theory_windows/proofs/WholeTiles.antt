@@ -9,7 +9,7 @@ use Rattle.theory_dissection.specs.Sums.{sum_over, number_of}
 use Rattle.std.specs.List.{AllByRecursion}
 use Rattle.theory_addresses.specs.Search.{IsAmong}
 use Rattle.theory_windows.specs.Patch.{Patch, IsDissected, Covers}
-use Rattle.theory_windows.specs.WholeTiles.{WholeTile, AreGlued, WholesCover}
+use Rattle.theory_windows.specs.WholeTiles.{WholeTile, CountAsTheirParts, WholesCoverBox}
 use Rattle.theory_dissection.proofs.Sums.{sum-ext_on, sum-flat_map}
 use Rattle.theory_addresses.proofs.Lists.{AllByRecursion-among, AllByRecursion-from, IsAmong-flat_map}
 use Rattle.theory_windows.proofs.Members.{same_whole, number-one, some-passes}
@@ -57,7 +57,7 @@ number-same p q (x ∷ xs) h = ap₂ (λ b n. cond b (suc n) n) h.0 (number-same
 
 module _ (S : Signed) {T : Type 0} (P : Patch S T) (D : IsDissected S T P) (box : OpenBox S.ops.carrier)
     (found : List T) (C : Covers S T P box found) (wholes : List (WholeTile S T))
-    (G : AreGlued S T P found wholes)
+    (G : CountAsTheirParts S T P found wholes)
     (p : TestPoint S.ops.carrier) (test : IsTestPoint S p) (inside : in_box S box p ≡ true) where
   abbrev all : List T
   all = flat_map (λ (w : WholeTile S T). w.parts) wholes
@@ -102,5 +102,5 @@ module _ (S : Signed) {T : Type 0} (P : Patch S T) (D : IsDissected S T P) (box 
       (AllByRecursion-from _ wholes (λ w i. ap (λ z. int_eq z (pos 1)) (count-whole w i)))
       ∙ one-one (λ (w : WholeTile S T). holders w.parts) wholes numbers-sum
 
-pub wholes_cover : (S : Signed) → {T : Type 0} → WholesCover S T
+pub wholes_cover : (S : Signed) → {T : Type 0} → WholesCoverBox S T
 wholes_cover S P D box found C wholes G p test inside = whole-one S P D box found C wholes G p test inside

@@ -16,8 +16,10 @@ total_count S polygons p = sum_over (λ polygon. count S polygon p) polygons
 -- a polygon's count is constant on an open box that its edges avoid
 abbrev pub ClosedChain : Signed → Type 0
 ClosedChain S =
-    (box : OpenBox S.ops.carrier) (polygon : Polygon S) → AllByRecursion (λ e. ¬ MeetsBox S box e) (edges polygon)
-    → (p q : TestPoint S.ops.carrier) → IsTestPoint S p → IsTestPoint S q → IsTrue (in_box S box p) → IsTrue (in_box S box q)
+    (box : OpenBox S.ops.carrier) (polygon : Polygon S)
+    → AllByRecursion (λ e. ¬ MeetsBox S box e) (edges polygon)
+    → (p q : TestPoint S.ops.carrier) → IsTestPoint S p → IsTestPoint S q → IsTrue (in_box S box p)
+    → IsTrue (in_box S box q)
     → count S polygon p ≡ count S polygon q
 
 -- The same holds for the sum over polygons, if those of their edges that meet the box cancel in pairs:
@@ -25,6 +27,8 @@ ClosedChain S =
 abbrev pub ClosedChains : Signed → Type 0
 ClosedChains S =
     (box : OpenBox S.ops.carrier) (polygons : List (Polygon S))
-    → AllByRecursion (λ e. MeetsBox S box e → number_of (is_reverse S e) (flat_map edges polygons) ≡ 1) (flat_map edges polygons)
-    → (p q : TestPoint S.ops.carrier) → IsTestPoint S p → IsTestPoint S q → IsTrue (in_box S box p) → IsTrue (in_box S box q)
+    → AllByRecursion (λ e. MeetsBox S box e → number_of (is_reverse S e) (flat_map edges polygons) ≡ 1)
+    (flat_map edges polygons)
+    → (p q : TestPoint S.ops.carrier) → IsTestPoint S p → IsTestPoint S q → IsTrue (in_box S box p)
+    → IsTrue (in_box S box q)
     → total_count S polygons p ≡ total_count S polygons q

@@ -12,7 +12,8 @@ CutMeets S =
     → EdgeMeetsBox S a b box ↔ (EdgeMeetsBox S a c box ⊎ EdgeMeetsBox S c b box)
 
 -- of the points from cur on, each is on the segment from a to the next
-abbrev pub AreCuts : (S : Signed) → PlanePoint S.ops.carrier → PlanePoint S.ops.carrier → List (PlanePoint S.ops.carrier) → Type 0
+abbrev pub AreCuts : (S : Signed) → PlanePoint S.ops.carrier → PlanePoint S.ops.carrier
+    → List (PlanePoint S.ops.carrier) → Type 0
 AreCuts S a cur [] = Unit {0}
 AreCuts S a cur (v ∷ vs) = IsTrue (on_segment S a v cur) × AreCuts S a v vs
 
@@ -22,12 +23,14 @@ last_from cur [] = cur
 last_from cur (v ∷ vs) = last_from v vs
 
 -- one of the parts from cur on meets the box
-abbrev pub PartMeets : (S : Signed) → OpenBox S.ops.carrier → PlanePoint S.ops.carrier → List (PlanePoint S.ops.carrier) → Type 0
+abbrev pub PartMeets : (S : Signed) → OpenBox S.ops.carrier → PlanePoint S.ops.carrier
+    → List (PlanePoint S.ops.carrier) → Type 0
 PartMeets S box cur [] = ⊥
 PartMeets S box cur (v ∷ vs) = EdgeMeetsBox S cur v box ⊎ PartMeets S box v vs
 
 -- points of it, in order, cut the edge from a to the last of them
 abbrev pub CutsMeet : Signed → Type 0
 CutsMeet S =
-    (box : OpenBox S.ops.carrier) (a v : PlanePoint S.ops.carrier) (vs : List (PlanePoint S.ops.carrier)) → AreCuts S a v vs
+    (box : OpenBox S.ops.carrier) (a v : PlanePoint S.ops.carrier) (vs : List (PlanePoint S.ops.carrier))
+    → AreCuts S a v vs
     → EdgeMeetsBox S a (last_from v vs) box ↔ PartMeets S box a (v ∷ vs)

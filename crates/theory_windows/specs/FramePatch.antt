@@ -31,25 +31,35 @@ abbrev pub frame_patch : (P : Points) → Rule P.ring.carrier → Address → Pa
 frame_patch P r f = record { tiles = frame_tiles P r f; outline = tile_polygon P r (λ z. z) }
 
 -- with the level of each, and whether its shift is refused
-abbrev pub growing_frame : (P : Points) → (P.ring.carrier → Bool) → Rule P.ring.carrier → Address → GrowingPatch P.real (Placed P.ring.carrier)
-growing_frame P refused r f = record { patch = frame_patch P r f; level = λ t. level_in f t.address; refused = λ t. refused t.motion.shift }
+abbrev pub growing_frame : (P : Points) → (P.ring.carrier → Bool) → Rule P.ring.carrier → Address
+    → GrowingPatch P.real (Placed P.ring.carrier)
+growing_frame P refused r f = record {
+  patch = frame_patch P r f;
+  level = λ t. level_in f t.address;
+  refused = λ t. refused t.motion.shift;
+}
 
 -- the polygon of the frame of the base's ancestor at a level: the supertile's, moved back as its tiles are
 abbrev pub frame_polygon : (P : Points) → Rule P.ring.carrier → Address → ℕ → Polygon P.real
-frame_polygon P r f n = supertile_polygon P r (moved P (back P (placement P r (at_level f n).digits))) (top_kind (at_level f n)) n
+frame_polygon P r f n =
+    supertile_polygon P r (moved P (back P (placement P r (at_level f n).digits))) (top_kind (at_level f n)) n
 
 -- the frame of the base's ancestor at a level holds a point
 abbrev pub frame_holds : (P : Points) → Rule P.ring.carrier → Address → ℕ → P.ring.carrier → Bool
-frame_holds P r f n p = supertile_holds P r (top_kind (at_level f n)) n (back P (placement P r (at_level f n).digits)) p
+frame_holds P r f n p =
+    supertile_holds P r (top_kind (at_level f n)) n (back P (placement P r (at_level f n).digits)) p
 
 -- a tile of the frame of the base's ancestor, as one of the whole frame: its address is lifted, and its place
 -- stays the same
-abbrev pub lifted_tile : {A : Type 0} → Address → Placed A → Placed A
-lifted_tile f t = record { address = lifted_in f t.address; motion = t.motion }
+abbrev pub tile_of_ancestor : {A : Type 0} → Address → Placed A → Placed A
+tile_of_ancestor f t = record { address = lifted_in f t.address; motion = t.motion }
 
 -- the tile that an address names in the frame of the base's ancestor of the same depth, lifted
 abbrev pub in_frame : (P : Points) → Rule P.ring.carrier → Address → Address → Placed P.ring.carrier
-in_frame P r f a = record { address = lifted_in f a; motion = motion_beside P r (at_level f (depth a)).digits a.digits }
+in_frame P r f a = record {
+  address = lifted_in f a;
+  motion = motion_beside P r (at_level f (depth a)).digits a.digits;
+}
 
 -- where an edge between two points lies, and edge number e of a tile
 abbrev pub plane_edge : (P : Points) → Edge P.ring.carrier → PlaneEdge P.real

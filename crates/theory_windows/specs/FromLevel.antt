@@ -11,12 +11,14 @@ use Rattle.theory_windows.specs.PatchWindow.{LiesAcross}
 
 -- one tile alone lies across an edge
 abbrev pub OneAcross : Signed → Type 0 → Type 0
-OneAcross S T = (F : GrowingPatch S T) → IsDissected S T F.patch → (e : PlaneEdge S) (u v : T) → LiesAcross S T F e u → LiesAcross S T F e v → u ≡ v
+OneAcross S T = (F : GrowingPatch S T) → IsDissected S T F.patch → (e : PlaneEdge S) (u v : T)
+    → LiesAcross S T F e u → LiesAcross S T F e v → u ≡ v
 
 -- an edge is inner exactly from the level of the tile across it on
 abbrev pub InnerFromLevel : Signed → Type 0 → Type 0
 InnerFromLevel S T =
-    (F : GrowingPatch S T) → IsDissected S T F.patch → (e : PlaneEdge S) (u : T) → LiesAcross S T F e u → (n : ℕ) → IsInner S T F n e ↔ (F.level u ≤ n)
+    (F : GrowingPatch S T) → IsDissected S T F.patch → (e : PlaneEdge S) (u : T) → LiesAcross S T F e u
+    → (n : ℕ) → IsInner S T F n e ↔ (F.level u ≤ n)
 
 -- a test point is held exactly from the level of the tile that holds it on
 abbrev pub HeldFromLevel : Signed → Type 0 → Type 0

@@ -18,4 +18,5 @@ IsOfDepth S T F n t = IsAmong t F.patch.tiles × (F.level t ≤ n)
 
 -- a tile of the patch at depth n has the reverse of e as an edge, so e is not on the boundary at that depth
 abbrev pub IsInner : (S : Signed) (T : Type 0) → GrowingPatch S T → ℕ → PlaneEdge S → Type 0
-IsInner S T F n e = (u : T) × (f : PlaneEdge S) × IsOfDepth S T F n u × IsAmong f (edges (F.patch.outline u)) × IsTrue (is_reverse S e f)
+IsInner S T F n e = (u : T) × (f : PlaneEdge S) × IsOfDepth S T F n u × IsAmong f (edges (F.patch.outline u))
+    × IsTrue (is_reverse S e f)

@@ -6,7 +6,7 @@ use Rattle.theory_windows.specs.ClosedChains.{ClosedChain, ClosedChains}
 use Rattle.theory_windows.specs.Meeting.{TriangleMeets, PolygonMeets}
 use Rattle.theory_windows.specs.CutEdges.{CutMeets, CutsMeet}
 use Rattle.theory_windows.specs.Gluing.{Rotation, Gluing}
-use Rattle.theory_windows.specs.WholeTiles.{WholesCover}
+use Rattle.theory_windows.specs.WholeTiles.{WholesCoverBox}
 use Rattle.theory_windows.specs.Window.{WindowTheorem, KnownByOutline, OneOwner}
 use Rattle.theory_windows.specs.AnyOrder.{DrawnSame, DrawnAnyOrder, CoversAnyOrder}
 use Rattle.theory_windows.specs.GrownPolygon.{EnoughByPolygon}
@@ -48,7 +48,7 @@ OutlineGluingLaw P = Gluing P.real
 
 -- ---- of dissected patches
 abbrev pub WholesLaw : Points → Type 0
-WholesLaw P = WholesCover P.real (Placed P.ring.carrier)
+WholesLaw P = WholesCoverBox P.real (Placed P.ring.carrier)
 
 abbrev pub WindowLaw : Points → Type 0
 WindowLaw P = WindowTheorem P.real (Placed P.ring.carrier)

@@ -15,14 +15,17 @@ level_of same (d ∷ ds) (e ∷ es) = level_with (level_of same ds es) (same d e
 -- of two lists of one length: the level is at most n if and only if the digits from number n up are the same
 abbrev pub LevelTells : Type 0 → Type 0
 LevelTells D =
-    (same : D → D → Bool) → ((d e : D) → (same d e ≡ true) ↔ (d ≡ e)) → (ds es : List D) → length ds ≡ length es
+    (same : D → D → Bool) → ((d e : D) → (same d e ≡ true) ↔ (d ≡ e)) → (ds es : List D)
+    → length ds ≡ length es
     → (n : ℕ) → (level_of same ds es ≤ n) ↔ (drop n ds ≡ drop n es)
 
 -- Digits followed by the others have at most their own number as level. Digits whose level is at most n are
 -- of this form: n digits, followed by the others.
 pub record LiftsAreOfDepth (D : Type 0) (same : D → D → Bool) (es : List D) : Type 0 where
   pub lift : (ds : List D) → length ds ≤ length es → level_of same (ds ++ drop (length ds) es) es ≤ length ds
-  pub lifted : (ds : List D) → length ds ≡ length es → (n : ℕ) → level_of same ds es ≤ n → ds ≡ take n ds ++ drop n es
+  pub lifted : (ds : List D) → length ds ≡ length es → (n : ℕ) → level_of same ds es ≤ n
+      → ds ≡ take n ds ++ drop n es
 
 abbrev pub LiftsTell : Type 0 → Type 0
-LiftsTell D = (same : D → D → Bool) → ((d e : D) → (same d e ≡ true) ↔ (d ≡ e)) → (es : List D) → LiftsAreOfDepth D same es
+LiftsTell D = (same : D → D → Bool) → ((d e : D) → (same d e ≡ true) ↔ (d ≡ e)) → (es : List D)
+    → LiftsAreOfDepth D same es

@@ -6,7 +6,7 @@ use Rattle.theory_ring.specs.Sign.{Signed}
 use Rattle.theory_plane.specs.Box.{OpenBox}
 use Rattle.theory_windows.specs.GrowingPatch.{GrowingPatch}
 use Rattle.theory_addresses.specs.Search.{IsAmong}
-use Rattle.theory_windows.specs.EnoughDepth.{AreDrawn, IsLeastEnough, IsNotBeyond}
+use Rattle.theory_windows.specs.EnoughDepth.{AreDrawnAtDepth, IsLeastEnough, IsNotBeyond}
 use Rattle.theory_windows.specs.OpenEdges.{NumberedEdge}
 use Rattle.theory_windows.specs.SearchState.{SearchState, IsRightState}
 use Rattle.theory_windows.specs.PatchWindow.{PatchWindow, LiesAcross}
@@ -16,11 +16,12 @@ abbrev pub most_tiles : ℕ
 most_tiles = 200000
 
 -- from depth m on, and with a limit on the number of tiles
-pub record IsWithinLimits (S : Signed) (T : Type 0) (F : GrowingPatch S T) (box : OpenBox S.ops.carrier) (m limit : ℕ) : Type 0 where
+pub record IsWithinLimits (S : Signed) (T : Type 0) (F : GrowingPatch S T) (box : OpenBox S.ops.carrier)
+    (m limit : ℕ) : Type 0 where
   pub depth : ℕ
   pub least : IsLeastEnough S T F box m depth
   pub drawn : List T
-  pub are_drawn : AreDrawn S T F box depth drawn
+  pub are_drawn : AreDrawnAtDepth S T F box depth drawn
   pub none_refused : AllByRecursion (λ t. F.refused t ≡ false) drawn
   pub not_too_many : length drawn ≤ limit
 
@@ -28,11 +29,14 @@ pub record IsWithinLimits (S : Signed) (T : Type 0) (F : GrowingPatch S T) (box 
 abbrev pub GoesOn : Signed → Type 0 → Type 0
 GoesOn S T =
     (G : PatchWindow S T) (m limit : ℕ) → IsWithinLimits S T G.growing G.box m limit
-    → (s : SearchState S T) → IsRightState S T G.growing G.box s → (o : NumberedEdge S) → IsAmong o s.open_edges
+    → (s : SearchState S T) → IsRightState S T G.growing G.box s → (o : NumberedEdge S)
+    → IsAmong o s.open_edges
     → (u : T) × LiesAcross S T G.growing o.line u × (G.growing.refused u ≡ false) × (length s.found < limit)
 
 -- and if the search comes to its end, the window is within the limits
 abbrev pub EndsWithin : Signed → Type 0 → Type 0
 EndsWithin S T =
-    (G : PatchWindow S T) (m limit : ℕ) (s : SearchState S T) → IsRightState S T G.growing G.box s → s.open_edges ≡ []
-    → IsNotBeyond S T G.growing G.box m s.depth → length s.found ≤ limit → IsWithinLimits S T G.growing G.box m limit
+    (G : PatchWindow S T) (m limit : ℕ) (s : SearchState S T) → IsRightState S T G.growing G.box s
+    → s.open_edges ≡ []
+    → IsNotBeyond S T G.growing G.box m s.depth → length s.found ≤ limit
+    → IsWithinLimits S T G.growing G.box m limit

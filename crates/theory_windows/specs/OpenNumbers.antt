@@ -16,5 +16,6 @@ pub record IsEdgeAt (S : Signed) (polygons : List (Polygon S)) (o : NumberedEdge
 -- an open edge of polygons is the edge of its number of the polygon of its number, and meets the box
 abbrev pub OpenNumbers : Signed → Type 0
 OpenNumbers S =
-    (box : OpenBox S.ops.carrier) (polygons : List (Polygon S)) (o : NumberedEdge S) → IsAmong o (open_edges_of S box polygons)
+    (box : OpenBox S.ops.carrier) (polygons : List (Polygon S)) (o : NumberedEdge S)
+    → IsAmong o (open_edges_of S box polygons)
     → IsEdgeAt S polygons o × MeetsBox S box o.line

@@ -23,4 +23,5 @@ OpenStep S T =
     → (u : T) → IsAmong u G.growing.patch.tiles → (¬ IsAmong u s.found)
     → (stepped S T G.growing G.box s u).open_edges
     ≡ filter (λ n. not (is_met S (edges (G.growing.patch.outline u)) n.line)) s.open_edges
-    ++ filter (λ n. box_test S n.line.from n.line.to G.box && not (closes_one S s.open_edges n.line)) (edges_of_tile S (length s.found) (G.growing.patch.outline u))
+    ++ filter (λ n. box_test S n.line.from n.line.to G.box && not (closes_one S s.open_edges n.line))
+    (edges_of_tile S (length s.found) (G.growing.patch.outline u))

@@ -18,13 +18,15 @@ pub record PatchWindow (S : Signed) (T : Type 0) : Type 0 where
   pub high : 0 < box.h
 
 -- u is the tile across e: it has an edge that is the reverse of it
-pub record LiesAcross (S : Signed) (T : Type 0) (F : GrowingPatch S T) (e : PlaneEdge S) (u : T) : Type 0 where
+pub record LiesAcross (S : Signed) (T : Type 0) (F : GrowingPatch S T) (e : PlaneEdge S)
+    (u : T) : Type 0 where
   pub of_patch : IsAmong u F.patch.tiles
   pub edge : PlaneEdge S
   pub among : IsAmong edge (edges (F.patch.outline u))
   pub back : IsTrue (is_reverse S e edge)
 
 -- t is the tile that holds the centre
-pub record HoldsCentre (S : Signed) (T : Type 0) (F : GrowingPatch S T) (box : OpenBox S.ops.carrier) (t : T) : Type 0 where
+pub record HoldsCentre (S : Signed) (T : Type 0) (F : GrowingPatch S T) (box : OpenBox S.ops.carrier)
+    (t : T) : Type 0 where
   pub of_patch : IsAmong t F.patch.tiles
   pub holds : IsTrue (member S (F.patch.outline t) (test_point S.ops box.centre))

@@ -18,9 +18,9 @@ use Rattle.plane_geom.specs.declared.window.Window.{Window}
 use Rattle.rule_model.specs.Tiling.{Tiling, children}
 use Rattle.tile_place.specs.declared.placed_tile.PlacedTile.{PlacedTile}
 use Rattle.tile_place.specs.Searched.{placed_in}
-use Rattle.window_cover.specs.Limits.{IsWithinLimits}
+use Rattle.window_cover.specs.Limits.{IsCoverWithinLimits}
 use Rattle.theory_windows.specs.Limits.{most_tiles}
-use Rattle.window_cover.specs.Windows.{TileOf, box_of, AreDrawn, IsLeastEnough}
+use Rattle.window_cover.specs.Windows.{TileOf, box_of, AreDrawn, IsLeastForWindow}
 use Rattle.theory_windows.specs.FramePatch.{frame_patch}
 use Rattle.theory_windows.specs.FrameWindow.{AreAllThatMeet}
 use Rattle.theory_windows.proofs.Members.{no-more}
@@ -31,10 +31,10 @@ use Rattle.cyclo_points.specs.Reduced.{combination}
 use Rattle.cyclo_points.proofs.Coefficients.{coefficients_of}
 use Rattle.window_cover.specs.declared.cover_fault.CoverFault.{CoverFault}
 use Rattle.window_cover.specs.declared.cover_fault.CoverFault.TheVariants.{DepthLimit, CoordLimit, TooManyTiles, NoMemory}
-use Rattle.window_cover.specs.Causes.{HasCause}
+use Rattle.window_cover.specs.Causes.{HasCoverCause}
 use Rattle.tile_app.specs.Draw.{EndsDrawing, DrawRefuses}
 use Rattle.tile_app.specs.Windows.{reduced}
-use Rattle.tile_app.specs.DrawnTile.{point_of, CanBeDrawn}
+use Rattle.tile_app.specs.DrawnTile.{point_of_number, CanBeDrawn}
 use Rattle.call_notes.specs.Status.{OrNoMemory}
 use Rattle.call_notes.specs.FaultStatus.{status_of_cover}
 
@@ -49,7 +49,7 @@ drawable_within t g x stands within = record {
 }
 
 module _ (t : Tiling) (f g : FrameValue) (w : Window) (is_frame : IsFrameOf t f) (grown : GrowsTo t f g)
-    (within : IsWithinLimits t f w) (least : IsLeastEnough t f w (length g.digits))
+    (within : IsCoverWithinLimits t f w) (least : IsLeastForWindow t f w (length g.digits))
     (tiles : List PlacedTile) (drawn : AreDrawn t g w (map (placed_in t.order) tiles)) where
   -- the least enough depth is one
   same_depth : within.drawn_within.depth ≡ length g.digits
@@ -108,7 +108,7 @@ module _ (t : Tiling) (f g : FrameValue) (w : Window) (is_frame : IsFrameOf t f)
 
 -- ---- the window
 pub reduced-is : (o : Order) (p q : Point) → length q.c ≡ 4 → IsOf o q → point_in o q ≡ combination (points_of o) (quad_of p) → q ≡ reduced o p
-reduced-is o p q four of e = ap (λ (c : List ℤ). (let s : Point = record { c = c } in s)) (coefficients_of o q four of) ∙ ap (point_of o) e
+reduced-is o p q four of e = ap (λ (c : List ℤ). (let s : Point = record { c = c } in s)) (coefficients_of o q four of) ∙ ap (point_of_number o) e
 
 -- ---- why it is refused
 pub fault-or_ok : {T E : Type 0} (none : E) (r : Result T E) (fault : E) → r ≡ Err fault → (r ≡ Err none) ⊎ IsOk r → fault ≡ none
@@ -123,11 +123,11 @@ fault-or_ok {T} {E} none r fault e (inr f) = absurd (no_ok r fault e f)
     no_ok (Err y) x e f = absurd (cc f)
 
 module _ (asked : Bool) (t : Tiling) (w : Window) (f g : FrameValue) (grown : GrowsTo t f g) where
-  ends : (fault : CoverFault) → HasCause t f g w fault → (IsWithinLimits t f w → ⊥) → EndsDrawing t f w fault
+  ends : (fault : CoverFault) → HasCoverCause t f g w fault → (IsCoverWithinLimits t f w → ⊥) → EndsDrawing t f w fault
   ends fault cause beyond = record { beyond = beyond; frame = g; grown = grown; cause = cause }
 
-  pub cover_refused : (fault : CoverFault) → HasCause t f g w fault
-      → (IsWithinLimits t f w → fault ≡ NoMemory)
+  pub cover_refused : (fault : CoverFault) → HasCoverCause t f g w fault
+      → (IsCoverWithinLimits t f w → fault ≡ NoMemory)
       → OrNoMemory (DrawRefuses asked t f w) (status_of_cover fault)
   cover_refused (DepthLimit addr edge) cause only = inl (ends (DepthLimit addr edge) cause (λ h. absurd (cc (only h))))
   cover_refused (CoordLimit value) cause only = inl (ends (CoordLimit value) cause (λ h. absurd (cc (only h))))
@@ -135,6 +135,6 @@ module _ (asked : Bool) (t : Tiling) (w : Window) (f g : FrameValue) (grown : Gr
   cover_refused NoMemory cause only = tt
 
   pub refused_if_err : {T : Type 0} (r : Result T CoverFault) (fault : CoverFault) → r ≡ Err fault
-      → HasCause t f g w fault → (IsWithinLimits t f w → (r ≡ Err NoMemory) ⊎ IsOk r)
+      → HasCoverCause t f g w fault → (IsCoverWithinLimits t f w → (r ≡ Err NoMemory) ⊎ IsOk r)
       → OrNoMemory (DrawRefuses asked t f w) (status_of_cover fault)
   refused_if_err r fault e cause answered = cover_refused fault cause (λ h. fault-or_ok NoMemory r fault e (answered h))

@@ -31,8 +31,8 @@ use Rattle.tile_place.specs.Searched.{placed_in}
 use Rattle.tile_shape.specs.Views.{address_of}
 use Rattle.theory_windows.specs.FramePatch.{frame_patch}
 use Rattle.theory_windows.proofs.Members.{among-map}
-use Rattle.window_cover.specs.Limits.{IsWithinLimits}
-use Rattle.window_cover.specs.Windows.{TileOf, AreDrawn, IsLeastEnough}
+use Rattle.window_cover.specs.Limits.{IsCoverWithinLimits}
+use Rattle.window_cover.specs.Windows.{TileOf, AreDrawn, IsLeastForWindow}
 use Rattle.tile_app.specs.Draw.{EndsGluing, DrawRefuses}
 use Rattle.tile_app.specs.TilesOfWindow.{TilesOfWindow}
 use Rattle.tile_app.specs.DrawnTile.{CanBeDrawn, CanBeDrawnBy, CanBeDrawnWhole}
@@ -83,11 +83,11 @@ module _ (t : Tiling) where
   }
 
   module _ (f g : FrameValue) (w : Window) (grown : GrowsTo t f g)
-      (least : IsLeastEnough t f w (length g.digits)) (tiles : List PlacedTile)
+      (least : IsLeastForWindow t f w (length g.digits)) (tiles : List PlacedTile)
       (stand : All (Stands t g) tiles)
       (drawn : AreDrawn t g w (map (placed_in t.order) tiles)) (can : CanBeGlued t g tiles) where
     -- another frame of the least enough depth is the same
-    same-frame : (h : FrameValue) → GrowsTo t f h → IsLeastEnough t f w (length h.digits) → g ≡ h
+    same-frame : (h : FrameValue) → GrowsTo t f h → IsLeastForWindow t f w (length h.digits) → g ≡ h
     same-frame h up its_least = GrowsTo-is t f g grown ∙ ap (λ n. at_depth t n f) depths ∙ sym (GrowsTo-is t f h up)
       where
         depths : length g.digits ≡ length h.digits
@@ -127,7 +127,7 @@ module _ (t : Tiling) where
 
 -- ---- why they aren't glued
 module _ (asked : Bool) (t : Tiling) (w : Window) (is_asked : asked ≡ true) (f g : FrameValue)
-    (within : IsWithinLimits t f w) (tiles : List PlacedTile) (exactly : TilesOfWindow t f w g tiles)
+    (within : IsCoverWithinLimits t f w) (tiles : List PlacedTile) (exactly : TilesOfWindow t f w g tiles)
     (h : FrameValue) (grown_on : GrowsTo t g h) where
   ends : (fault : GlueFault) → HasGlueCause t g h tiles fault → (CanBeGlued t g tiles → ⊥) → EndsGluing asked t f w fault
   ends fault cause beyond = record {

@@ -18,7 +18,7 @@ use Rattle.tile_app.specs.Draw.{PrintsDraw}
 use Rattle.tile_app.specs.Headline.{TellsOnlyNeighbour, WritesExactlyTheWindow}
 use Rattle.tile_app.specs.Neighbour.{PrintsNeighbour}
 use Rattle.tile_app.specs.Tile.{OfTile}
-use Rattle.tile_app.specs.Windows.{window_in}
+use Rattle.tile_app.specs.Windows.{window_asked}
 
 tells : (t : Tiling) (a : Address) (edge : ℕ) (text : List ℕ) → PrintsNeighbour t a edge text → TellsOnlyNeighbour t a edge text
 tells t a edge text p = record { across = p.across; back = p.back; only_across = p.only_across; leads_back = p.leads_back; line = p.line }
@@ -75,10 +75,10 @@ module _ (words : List (List ℕ)) (handed : List Format) (left rest : Option (L
   pub exactly_the_window : (rule : RuleChoice) (addr : List ℕ) (seed : ℕ) (window : WindowAsked)
       (formats : List Format) (glue : Bool) → request_in words ≡ Ok (Draw rule addr seed window formats glue)
       → OfCall words handed left rest (λ c. (t : Tiling) × (text : List ℕ) × Names c (Draw rule addr seed window formats glue) t
-      × OfTile t addr (λ a. WritesExactlyTheWindow t (frame_of a seed) (window_in t.order window) glue formats text) × Took text)
+      × OfTile t addr (λ a. WritesExactlyTheWindow t (frame_of a seed) (window_asked t.order window) glue formats text) × Took text)
   exactly_the_window rule addr seed window formats glue right =
       let p = of_request (Draw rule addr seed window formats glue) right in
-      let writes_it = writes printed.tiling (frame_of p.address seed) (window_in printed.tiling.order window) glue formats done.2.0 p.holds in (
+      let writes_it = writes printed.tiling (frame_of p.address seed) (window_asked printed.tiling.order window) glue formats done.2.0 p.holds in (
         done.0,
         done.1,
         (

@@ -3,7 +3,7 @@ use Rattle.std.proofs.Common.{◌≡◌, ℕ, List, Result, Ok, Err, is_ok, IfOk
 use Rattle.theory_addresses.specs.Address.{Address}
 use Rattle.rule_model.specs.Tiling.{Tiling, children}
 use Rattle.tile_shape.specs.Accepted.{IsAcceptedAddress}
-use Rattle.tile_shape.specs.AddressIn.{address_in, AnswersAddress}
+use Rattle.tile_shape.specs.AddressIn.{address_of_text, AnswersAddress}
 use Rattle.tile_shape.specs.declared.address.Address as program
 use Rattle.tile_shape.specs.declared.address_fault.AddressFault.{AddressFault}
 use Rattle.tile_shape.specs.Refused.{IsFaultOf}
@@ -28,8 +28,8 @@ module _ (t : Tiling) (text bytes : List ℕ) (same : bytes ≡ text) (rows : Li
   }
 
   -- whether it is read as an address
-  pub tile_told : (result : Result program.Address AddressFault) → AnswersAddress result (address_in rows bytes) → is_ok result ≡ is_tile t text
-  tile_told result h = answered result (address_in rows bytes) h ∙ ap₂ (λ r x. is_ok (address_in r x)) are same
+  pub tile_told : (result : Result program.Address AddressFault) → AnswersAddress result (address_of_text rows bytes) → is_ok result ≡ is_tile t text
+  tile_told result h = answered result (address_of_text rows bytes) h ∙ ap₂ (λ r x. is_ok (address_of_text r x)) are same
     where
       answered : (result : Result program.Address AddressFault) (answer : Result Address AddressFault)
           → AnswersAddress result answer → is_ok result ≡ is_ok answer

@@ -3,10 +3,10 @@ use Rattle.std.proofs.Common.{◌≡◌, ◌⊎◌, inl, inr, ℕ, ◌<◌, ◌�
 use Rattle.std.specs.declared.option.Option.{Option}
 use Rattle.theory_addresses.specs.Address.{Address}
 use Rattle.addr_calc.specs.declared.calc_fault.CalcFault.{CalcFault}
-use Rattle.addr_calc.specs.Script.{Outcome as ScriptOutcome, IsAnswer}
+use Rattle.addr_calc.specs.Script.{Outcome as ScriptOutcome, IsOutcome}
 use Rattle.addr_calc.proofs.Faults.{OneText, fault_once}
 use Rattle.addr_calc.proofs.OneAnswer.{FitsAreShort}
-use Rattle.call_words.specs.Request.{Request, request_in, rule_of}
+use Rattle.call_words.specs.Request.{Request, request_in, rule_asked}
 use Rattle.call_words.specs.Request.Request.{Place, Neighbour, Walk, Draw, Check, Calc, Drill, Star, Verify}
 use Rattle.call_words.proofs.RightWords.{place-refused}
 use Rattle.call_words.specs.WrongWord.{place_refused, wrong_place}
@@ -26,7 +26,7 @@ use Rattle.call_notes.specs.declared.status.Status.TheVariants.{Done, BadWords, 
 use Rattle.tile_app.specs.Answer.{OfRequest, HasAnswer, Refuses, TileRefuses, CanBeAnswered, IsLimitOf, IsBeyond, IsBeyondLimits}
 use Rattle.tile_app.specs.BaseFrame.{frame_of}
 use Rattle.tile_app.specs.Calc.{CanCalculate, CalcRefuses}
-use Rattle.tile_app.specs.Call.{Call, IsRight, Asks, TellsTooLong, HasRuleFault}
+use Rattle.tile_app.specs.Call.{Call, AreRight, Asks, TellsTooLong, HasRuleFault}
 use Rattle.tile_app.specs.Causes.{Causes}
 use Rattle.tile_app.specs.Choices.{tiling_chosen}
 use Rattle.tile_app.specs.Draw.{PassesLimits, DrawRefuses}
@@ -40,7 +40,7 @@ use Rattle.call_notes.specs.Status.{IsLimit}
 use Rattle.tile_app.specs.Tile.{IsTile, IsNoTile, OfTile}
 use Rattle.tile_app.specs.Verify.{CanVerify, VerifyRefuses, BuiltinVerdictLaw}
 use Rattle.tile_app.specs.Walk.{CanWalk, WalkRefuses}
-use Rattle.tile_app.specs.Windows.{window_in}
+use Rattle.tile_app.specs.Windows.{window_asked}
 use Rattle.tile_app.proofs.Once.{IsOf, place_once, neighbour_once, walk_once, draw_once, draw_beyond, star_once, star_beyond}
 use Rattle.tile_app.proofs.Requested.{some_is}
 use Rattle.tile_app.proofs.Tilings.{AcceptedAreUsable, chosen_is_usable, builtin-chosen}
@@ -50,7 +50,7 @@ use Rattle.tile_app.proofs.Windows.{window-fits}
 -- ---- the laws from which it follows
 abbrev pub OneOutcome : Type 0
 OneOutcome = (t : Tiling) (script : List ℕ) (one other : ScriptOutcome) → AreUsable (children t)
-    → IsAnswer t script one → IsAnswer t script other → one ≡ other
+    → IsOutcome t script one → IsOutcome t script other → one ≡ other
 
 pub record Laws : Type 0 where
   pub one_text : OneText
@@ -61,7 +61,8 @@ pub record Laws : Type 0 where
 
 -- what `verify` needs beyond it of the tiling: that one thing is said of a listing of its window, in each frame
 abbrev HasVerdictFor : Request → Tiling → Type 0
-HasVerdictFor (Verify name addr seed window) t = (f : FrameValue) (file : List ℕ) → IsFrameOf t f → HasOneVerdict t f (window_in t.order window) file
+HasVerdictFor (Verify name addr seed window) t = (f : FrameValue) (file : List ℕ) → IsFrameOf t f
+    → HasOneVerdict t f (window_asked t.order window) file
 HasVerdictFor _ t = Unit {0}
 
 module _ (laws : Laws) (t : Tiling) (usable : AreUsable (children t)) where
@@ -161,9 +162,9 @@ module _ (laws : Laws) (t : Tiling) (usable : AreUsable (children t)) where
       tile_once addr (λ a. CanWalk t (frame_of a seed) path) (λ a. WalkRefuses t (frame_of a seed) path)
       (λ x. ⊥) (λ a tile x y p q. inl (walk_once t (frame_of a seed) path x y p q)) s u h k
   request_once (Draw rule addr seed window layers glue) file s u law h k =
-      tile_once addr (λ a. IsWithinTheirLimits glue t (frame_of a seed) (window_in t.order window))
-      (λ a. DrawRefuses glue t (frame_of a seed) (window_in t.order window)) IsLimit
-      (λ a tile x y p q. draw_once t glue (frame_of a seed) (window_in t.order window) x y p q) s u h k
+      tile_once addr (λ a. IsWithinTheirLimits glue t (frame_of a seed) (window_asked t.order window))
+      (λ a. DrawRefuses glue t (frame_of a seed) (window_asked t.order window)) IsLimit
+      (λ a tile x y p q. draw_once t glue (frame_of a seed) (window_asked t.order window) x y p q) s u h k
   request_once (Check rule) file s u law h k = inl (done_once s u h k)
   request_once (Calc name) file s u law h k = inl (calc_once file s u h k)
   request_once (Drill rule count seed) file s u law h k = inl (done_once s u h k)
@@ -171,26 +172,26 @@ module _ (laws : Laws) (t : Tiling) (usable : AreUsable (children t)) where
       tile_once addr (λ a. HasStar t (frame_of a seed) vertex) (λ a. StarRefuses t (frame_of a seed) vertex)
       IsLimit (λ a tile x y p q. star_once t (frame_of a seed) vertex x y p q) s u h k
   request_once (Verify name addr seed window) file s u law h k =
-      tile_once addr (λ a. CanVerify t (frame_of a seed) (window_in t.order window) file)
-      (λ a. VerifyRefuses t (frame_of a seed) (window_in t.order window) file) IsLimit
-      (λ a tile x y p q. verify_once t (frame_of a seed) (window_in t.order window) file
+      tile_once addr (λ a. CanVerify t (frame_of a seed) (window_asked t.order window) file)
+      (λ a. VerifyRefuses t (frame_of a seed) (window_asked t.order window) file) IsLimit
+      (λ a tile x y p q. verify_once t (frame_of a seed) (window_asked t.order window) file
       (law (frame_of a seed) file (base-is_frame addr seed a tile)) x y p q) s u h k
 
   request_beyond : (q : Request) (file : List ℕ) (s : Status) → HasVerdictFor q t → IsFor q file s → IsBeyond q file t → IsLimit s
   request_beyond (Draw rule addr seed window layers glue) file s law h k =
-      tile_beyond addr (λ a. IsWithinTheirLimits glue t (frame_of a seed) (window_in t.order window))
-      (λ a. DrawRefuses glue t (frame_of a seed) (window_in t.order window))
-      (λ a. PassesLimits glue t (frame_of a seed) (window_in t.order window))
-      (λ a tile x p b. draw_beyond t glue (frame_of a seed) (window_in t.order window) x p b) s h k
+      tile_beyond addr (λ a. IsWithinTheirLimits glue t (frame_of a seed) (window_asked t.order window))
+      (λ a. DrawRefuses glue t (frame_of a seed) (window_asked t.order window))
+      (λ a. PassesLimits glue t (frame_of a seed) (window_asked t.order window))
+      (λ a tile x p b. draw_beyond t glue (frame_of a seed) (window_asked t.order window) x p b) s h k
   request_beyond (Star rule addr seed vertex) file s law h k =
       tile_beyond addr (λ a. HasStar t (frame_of a seed) vertex) (λ a. StarRefuses t (frame_of a seed) vertex)
       (λ a. PassesStarLimits t (frame_of a seed) vertex)
       (λ a tile x p b. star_beyond t (frame_of a seed) vertex x p b) s h k
   request_beyond (Verify name addr seed window) file s law h k =
-      tile_beyond addr (λ a. CanVerify t (frame_of a seed) (window_in t.order window) file)
-      (λ a. VerifyRefuses t (frame_of a seed) (window_in t.order window) file)
-      (λ a. LacksTiles t (frame_of a seed) (window_in t.order window) file)
-      (λ a tile x p b. verify_beyond t (frame_of a seed) (window_in t.order window) file
+      tile_beyond addr (λ a. CanVerify t (frame_of a seed) (window_asked t.order window) file)
+      (λ a. VerifyRefuses t (frame_of a seed) (window_asked t.order window) file)
+      (λ a. LacksTiles t (frame_of a seed) (window_asked t.order window) file)
+      (λ a tile x p b. verify_beyond t (frame_of a seed) (window_asked t.order window) file
       (law (frame_of a seed) file (base-is_frame addr seed a tile)) x p b) s h k
   request_beyond q file s law h k = absurd k
 
@@ -231,14 +232,14 @@ tiling_is : (s t : Tiling) (o : Result Tiling RuleFault) → o ≡ Ok s → o �
 tiling_is s t o e f = cc
 
 module _ (c : Call) where
-  same_request : (p q : Request) → IsRight c p → IsRight c q → p ≡ q
+  same_request : (p q : Request) → AreRight c p → AreRight c q → p ≡ q
   same_request p q h k = ok_is p q (request_in c.words) h.asked k.asked
 
   -- a file that is too long is read, for right words each of whose formats has a layer
   wrong_or_long : (p : ℕ) (s : Status) → Causes c (BadWords p) → TellsTooLong c s → ⊥
   wrong_or_long p s h k = right_or_wrong c.words k.request p k.right.asked h
 
-  lacking_or_right : (f : Format) (q : Request) → Causes c (NoLayer f) → IsRight c q → ⊥
+  lacking_or_right : (f : Format) (q : Request) → Causes c (NoLayer f) → AreRight c q → ⊥
   lacking_or_right f q h k = has_or_lacks f (lacking q c.handed) k.layers
       (subst (λ r. lacking r c.handed ≡ Some f) (ok_is h.0 q (request_in c.words) h.1 k.asked) h.2)
 
@@ -262,8 +263,8 @@ module _ (c : Call) where
   long_once s u h k = absurd k
 
   rule_once : (x y : RuleFault) → HasRuleFault c x → HasRuleFault c y → x ≡ y
-  rule_once x y h k = fault_is x y (tiling_chosen c.file (rule_of k.request))
-      (subst (λ q. tiling_chosen c.file (rule_of q) ≡ Err x)
+  rule_once x y h k = fault_is x y (tiling_chosen c.file (rule_asked k.request))
+      (subst (λ q. tiling_chosen c.file (rule_asked q) ≡ Err x)
       (same_request h.request k.request h.right k.right) h.first) k.first
 
   lacking_once : (f g : Format) → Causes c (NoLayer f) → Causes c (NoLayer g) → f ≡ g
@@ -309,8 +310,8 @@ module _ (c : Call) where
   early_or_asks (BadScript script.TooLong) q t h k = long_or_asks (BadScript script.TooLong) q t h k
   early_or_asks (BadListing listing.TooLong) q t h k = long_or_asks (BadListing listing.TooLong) q t h k
   early_or_asks (RuleRefused x) q t h k =
-      either t x (tiling_chosen c.file (rule_of q)) k.names.chosen
-      (subst (λ p. tiling_chosen c.file (rule_of p) ≡ Err x) (same_request h.request q h.right k.right)
+      either t x (tiling_chosen c.file (rule_asked q)) k.names.chosen
+      (subst (λ p. tiling_chosen c.file (rule_asked p) ≡ Err x) (same_request h.request q h.right k.right)
       h.first)
   early_or_asks s q t h k = h
 
@@ -353,8 +354,8 @@ module _ (c : Call) where
   for_asked : (q : Request) (t : Tiling) (s : Status) → Asks c q t → IsOfRequest s → IsOf (HasAnswer q c.file t) (Refuses q c.file t) s
   for_asked q t s k h =
       let same = same_request h.request q h.asks.right k.right in
-      let tiling = tiling_is h.tiling t (tiling_chosen c.file (rule_of q))
-      (subst (λ p. tiling_chosen c.file (rule_of p) ≡ Ok h.tiling) same h.asks.names.chosen)
+      let tiling = tiling_is h.tiling t (tiling_chosen c.file (rule_asked q))
+      (subst (λ p. tiling_chosen c.file (rule_asked p) ≡ Ok h.tiling) same h.asks.names.chosen)
       k.names.chosen in
       subst (λ x. IsOf (HasAnswer q c.file x) (Refuses q c.file x) s) tiling
       (subst (λ p. IsOf (HasAnswer p c.file h.tiling) (Refuses p c.file h.tiling) s) same h.holds)
@@ -365,8 +366,8 @@ module _ (c : Call) where
       let same = builtin-chosen c.file name t asks.names.chosen in
       let frame = subst (λ s. IsFrameOf s f) (sym same) is_frame in
       let fits = window-fits t.order c.words name addr seed window asks.right.asked in
-      subst (λ (s : Tiling). HasOneVerdict s f (window_in t.order window) file) same
-      (laws.one_verdict name f (window_in t.order window) file frame fits)
+      subst (λ (s : Tiling). HasOneVerdict s f (window_asked t.order window) file) same
+      (laws.one_verdict name f (window_asked t.order window) file frame fits)
   has_verdict laws q t asks = tt
 
   -- the two are the same, or both are limits of what is asked for
@@ -374,7 +375,7 @@ module _ (c : Call) where
   AreOne s u = (s ≡ u) ⊎ ((q : Request) × (request_in c.words ≡ Ok q) × IsLimitOf q s × IsLimitOf q u)
 
   usable : Laws → (q : Request) (t : Tiling) → Asks c q t → AreUsable (children t)
-  usable laws q t k = chosen_is_usable laws.usable c.file t (rule_of q) k.names.chosen
+  usable laws q t k = chosen_is_usable laws.usable c.file t (rule_asked q) k.names.chosen
 
   asked_once : (laws : Laws) (s u : Status) → IsOfRequest s → IsOfRequest u → AreOne s u
   asked_once laws s u h k =

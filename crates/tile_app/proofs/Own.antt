@@ -32,7 +32,7 @@ use Rattle.tile_app.specs.Tile.{IsNoTile, OfTile, is_tile}
 use Rattle.tile_app.specs.Tilings.{builtin_tiling}
 use Rattle.call_notes.specs.FaultStatus.{status_of_calc}
 use Rattle.tile_app.specs.Verify.{PrintsVerify, VerifyRefuses}
-use Rattle.tile_app.specs.Windows.{window_in}
+use Rattle.tile_app.specs.Windows.{window_asked}
 use Rattle.tile_app.proofs.Tiles.{frame_holds}
 use Rattle.tile_app.proofs.Unrefused.{no_read_fault}
 
@@ -103,18 +103,18 @@ module _ (name : Name) (asked : WindowAsked) (t : Tiling) (f : FrameValue) (base
   own : has_own_file q ≡ true
   own = sym (ap (λ s. is_tile s (address_text f.base)) its) ∙ base.told
 
-  pub listing_printed : (text : List ℕ) → IsListingPrinted t f (window_in t.order asked) left rest text
+  pub listing_printed : (text : List ℕ) → IsListingPrinted t f (window_asked t.order asked) left rest text
       → OfOwnFile q left rest (λ file. IsPrinted q file t text)
   listing_printed text h = record {
     file = h.file;
     read = subst (λ b. WasFileIn (longest_for q) b left rest h.file) (sym own) h.read;
     not_too_long = h.not_too_long;
-    holds = frame_holds t f base (λ g. PrintsVerify t g (window_in t.order asked) h.file text) h.holds;
+    holds = frame_holds t f base (λ g. PrintsVerify t g (window_asked t.order asked) h.file text) h.holds;
   }
 
   listing_either : (s : Status)
-      → IsTooLong Listing left rest s ⊎ OfFile Listing left rest (λ file. VerifyRefuses t f (window_in t.order asked) file s)
-      → ((file : List ℕ) → OfTile t (address_text f.base) (λ a. VerifyRefuses t (frame_of a f.start) (window_in t.order asked) file s)
+      → IsTooLong Listing left rest s ⊎ OfFile Listing left rest (λ file. VerifyRefuses t f (window_asked t.order asked) file s)
+      → ((file : List ℕ) → OfTile t (address_text f.base) (λ a. VerifyRefuses t (frame_of a f.start) (window_asked t.order asked) file s)
       → Refuses q file t s)
       → IsOwnTooLong q left rest s ⊎ OfOwnFile q left rest (λ file. Refuses q file t s)
   listing_either s h same = elim h [
@@ -123,11 +123,11 @@ module _ (name : Name) (asked : WindowAsked) (t : Tiling) (f : FrameValue) (base
       file = of.file;
       read = subst (λ b. WasFileIn (longest_for q) b left rest of.file) (sym own) of.read;
       not_too_long = of.not_too_long;
-      holds = same of.file (frame_holds t f base (λ g. VerifyRefuses t g (window_in t.order asked) of.file s) of.holds);
+      holds = same of.file (frame_holds t f base (λ g. VerifyRefuses t g (window_asked t.order asked) of.file s) of.holds);
     })
   ]
 
-  pub listing_refused : (s : Status) → IsListingRefused t f (window_in t.order asked) left rest s → IsRequestRefused q t left rest s
+  pub listing_refused : (s : Status) → IsListingRefused t f (window_asked t.order asked) left rest s → IsRequestRefused q t left rest s
   listing_refused NoMemory h = tt
   listing_refused ReadFault h = own
   listing_refused (BadAddress fault) h = elim h [
@@ -169,7 +169,7 @@ module _ (t : Tiling) (left rest : Option (List ℕ)) (file : List ℕ)
   script_done text h = record { file = file; read = read; not_too_long = short; holds = h }
 
   -- a fault of its lines
-  pub script_faulty : (fault : CalcFault) → calculated.OrNoMemory (λ f. calculated.IsAnswer t file (Err f))
+  pub script_faulty : (fault : CalcFault) → calculated.LineOrNoMemory (λ f. calculated.IsOutcome t file (Err f))
       fault → IsScriptRefused t left rest (status_of_calc fault)
   script_faulty calculating.NoMemory h = tt
   script_faulty fault h = inr (record { file = file; read = read; not_too_long = short; holds = h })

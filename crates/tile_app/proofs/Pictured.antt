@@ -12,7 +12,7 @@ use Rattle.theory_walks.specs.Frames.{FrameValue, GrowsTo}
 use Rattle.plane_geom.specs.declared.window.Window.{Window}
 use Rattle.rule_model.specs.Tiling.{Tiling}
 use Rattle.tile_place.specs.declared.placed_tile.PlacedTile.{PlacedTile}
-use Rattle.window_cover.specs.Limits.{IsWithinLimits}
+use Rattle.window_cover.specs.Limits.{IsCoverWithinLimits}
 use Rattle.window_cover.specs.Windows.{box_of}
 use Rattle.tile_app.specs.Draw.{Pictures}
 use Rattle.tile_app.specs.DrawnTile.{drawn_of, drawn_whole}
@@ -21,7 +21,7 @@ use Rattle.tile_app.specs.Pictures.{IsPictureOf, AreDrawnWhole}
 use Rattle.tile_app.specs.TilesOfWindow.{TilesOfWindow}
 use Rattle.tile_app.proofs.Gluing.{glued-in_window}
 
-module _ (glue : Bool) (t : Tiling) (w : Window) (f g : FrameValue) (within : IsWithinLimits t f w)
+module _ (glue : Bool) (t : Tiling) (w : Window) (f g : FrameValue) (within : IsCoverWithinLimits t f w)
     (tiles : List PlacedTile) (exactly : TilesOfWindow t f w g tiles) where
   pictures : (picture : List Drawn) → (glue ≡ true → CanBeGluedInWindow t f w) → IsPictureOf glue t w g tiles picture → Pictures glue t f w picture
   pictures picture can_be_glued is_picture = record {
@@ -42,7 +42,7 @@ module _ (glue : Bool) (t : Tiling) (w : Window) (f g : FrameValue) (within : Is
   module _ (asked : glue ≡ true) (counts : WholesCountLaw t) (covering : WholesCoverLaw t) (h : FrameValue)
       (grown_on : GrowsTo t g h) (depth : IsLeastForGlue t g tiles (length h.digits))
       (can : CanBeGlued t g tiles) (wholes : List WholeTile) (whole_tiles : AreWholeTilesOf t h tiles wholes)
-      (ordered : glued.AreInOrder wholes) where
+      (ordered : glued.AreWholesInOrder wholes) where
     are-whole : AreDrawnWhole t w g tiles (map (drawn_whole t) wholes)
     are-whole = record {
       can_be_glued = can;

@@ -10,7 +10,7 @@ use Rattle.cyclo_points.specs.declared.motion.Motion.{Motion}
 use Rattle.cyclo_points.specs.Motion.{motion_in}
 use Rattle.cyclo_points.specs.Order.{points_of}
 use Rattle.cyclo_points.proofs.Coefficients.{coefficients_of}
-use Rattle.tile_app.specs.DrawnTile.{point_of}
+use Rattle.tile_app.specs.DrawnTile.{point_of_number}
 
 -- one more, behind the points that were there
 pub one_more_of : {A : Type 0} (F : A → Point) (vs : List A) (os ps qs : List Point) (i : ℕ) (p : Point)
@@ -22,6 +22,6 @@ one_more_of F vs os ps qs i p d before is below placed =
 
 -- a corner is where its vertex is placed
 pub corner_placed : (t : Tiling) (kind : ℕ) (m : Motion) (e : ℕ) (p : Point) → length p.c ≡ 4 → IsCorner t kind m e p
-    → p ≡ point_of t.order (moved (points_of t.order) (motion_in t.order m) (vertex (points_of t.order) t.rule kind e))
+    → p ≡ point_of_number t.order (moved (points_of t.order) (motion_in t.order m) (vertex (points_of t.order) t.rule kind e))
 corner_placed t kind m e p four is = ap (λ (c : List ℤ). (let s : Point = record { c = c } in s))
-    (coefficients_of t.order p four is.in_order) ∙ ap (point_of t.order) is.place
+    (coefficients_of t.order p four is.in_order) ∙ ap (point_of_number t.order) is.place

@@ -3,7 +3,7 @@ use Rattle.std.proofs.Common.{◌≡◌, ◌⊎◌, inl, inr, ℕ, ◌<◌, ◌�
 use Rattle.std.specs.declared.option.Option.{Option}
 use Rattle.call_words.specs.declared.rule_choice.RuleChoice.{RuleChoice}
 use Rattle.call_words.specs.declared.rule_choice.RuleChoice.TheVariants.{Builtin, File}
-use Rattle.call_words.specs.Request.{Request, request_in, rule_of}
+use Rattle.call_words.specs.Request.{Request, request_in, rule_asked}
 use Rattle.call_words.specs.Request.Request.{Place, Neighbour, Walk, Draw, Check, Calc, Drill, Star, Verify}
 use Rattle.call_words.specs.WrongWord.{wrong_place}
 use Rattle.layer_api.specs.declared.format.Format.{Format}
@@ -17,11 +17,11 @@ use Rattle.call_notes.specs.declared.status.Status.{Status}
 use Rattle.call_notes.specs.declared.status.Status.TheVariants.{BadWords, NoLayer, ReadFault, RuleTooLong, RuleRefused, BadScript, BadListing, NoMemory}
 use Rattle.tile_app.specs.Answer.{OfRequest, IsPrinted, Refuses, Prints}
 use Rattle.tile_app.specs.Asked.{WasRead, WasFileIn, WasAsked, OfCall}
-use Rattle.tile_app.specs.Call.{Call, IsRight, TellsTooLong, HasRuleFault, has_file_in, longest_in, reads_file, longest_read}
+use Rattle.tile_app.specs.Call.{Call, AreRight, TellsTooLong, HasRuleFault, has_file_in, longest_in, reads_file, longest_read}
 use Rattle.tile_app.specs.Causes.{Causes, IsRefused}
 use Rattle.tile_app.specs.Choices.{is_file, tiling_chosen}
 use Rattle.tile_app.specs.FileKinds.{longest_of, too_long_of}
-use Rattle.tile_app.specs.Files.{has_own_file, has_file, kind_of, longest_for, too_long_for}
+use Rattle.tile_app.specs.Files.{has_own_file, has_file, file_kind_of, longest_for, too_long_for}
 use Rattle.tile_app.specs.Layers.{HaveLayers, lacking}
 use Rattle.tile_app.specs.Reading.{IsRuleRead, IsRuleRefused, IsItsTiling, OfOwnFile, IsOwnTooLong, IsRequestRefused}
 use Rattle.tile_app.specs.Tilings.{builtin_tiling}
@@ -33,12 +33,12 @@ refused_by P Q f (Ok x) h = h
 refused_by P Q f (Err s) h = f s h
 
 -- ---- a request that has a rule file read has none of its own
-own_or_rule : (q : Request) → rule_of q ≡ File → has_own_file q ≡ false
+own_or_rule : (q : Request) → rule_asked q ≡ File → has_own_file q ≡ false
 own_or_rule (Calc name) e = absurd (cc e)
 own_or_rule (Verify name addr seed window) e = absurd (cc e)
 own_or_rule q e = refl
 
-rule_kind : (q : Request) → rule_of q ≡ File → kind_of q ≡ Rule
+rule_kind : (q : Request) → rule_asked q ≡ File → file_kind_of q ≡ Rule
 rule_kind (Calc name) e = absurd (cc e)
 rule_kind (Verify name addr seed window) e = absurd (cc e)
 rule_kind q e = refl
@@ -48,7 +48,7 @@ its_rule File e = refl
 its_rule (Builtin name) e = absurd (cc e)
 
 -- a request that has one of its own read is of a built-in rule
-pub own_builtin : (q : Request) → has_own_file q ≡ true → is_file (rule_of q) ≡ false
+pub own_builtin : (q : Request) → has_own_file q ≡ true → is_file (rule_asked q) ≡ false
 own_builtin (Calc name) e = refl
 own_builtin (Verify name addr seed window) e = refl
 own_builtin q e = absurd (cc e)
@@ -57,19 +57,19 @@ own_builtin q e = absurd (cc e)
 ok_is : (t u : Tiling) → (let o : Result Tiling RuleFault = Ok t in o) ≡ Ok u → t ≡ u
 ok_is t u e = cc
 
-pub its_tiling : (q : Request) (left rest : Option (List ℕ)) (t : Tiling) → IsRuleRead (rule_of q) left rest t → IsItsTiling q t
+pub its_tiling : (q : Request) (left rest : Option (List ℕ)) (t : Tiling) → IsRuleRead (rule_asked q) left rest t → IsItsTiling q t
 its_tiling (Calc name) left rest t h = sym (ok_is (builtin_tiling name) t h.chosen)
 its_tiling (Verify name addr seed window) left rest t h = sym (ok_is (builtin_tiling name) t h.chosen)
 its_tiling q left rest t h = tt
 
 -- what a request of the rule of a file prints, or is refused for, doesn't speak of a file of its own
-pub prints_without : (t : Tiling) (text : List ℕ) (q : Request) → rule_of q ≡ File → (file other : List ℕ)
+pub prints_without : (t : Tiling) (text : List ℕ) (q : Request) → rule_asked q ≡ File → (file other : List ℕ)
     → IsPrinted q file t text → IsPrinted q other t text
 prints_without t text (Calc name) e file other h = absurd (cc e)
 prints_without t text (Verify name addr seed window) e file other h = absurd (cc e)
 prints_without t text q e file other h = h
 
-pub refuses_without : (t : Tiling) (s : Status) (q : Request) → rule_of q ≡ File → (file other : List ℕ) → Refuses q file t s → Refuses q other t s
+pub refuses_without : (t : Tiling) (s : Status) (q : Request) → rule_asked q ≡ File → (file other : List ℕ) → Refuses q file t s → Refuses q other t s
 refuses_without t s (Calc name) e file other h = absurd (cc e)
 refuses_without t s (Verify name addr seed window) e file other h = absurd (cc e)
 refuses_without t s q e file other h = h
@@ -79,7 +79,7 @@ record OfItsFile (q : Request) (left rest : Option (List ℕ)) (t : Tiling) (P :
   file : List ℕ
   read : WasFileIn (longest_for q) (has_file q) left rest file
   not_too_long : length file ≤ longest_for q
-  chosen : tiling_chosen file (rule_of q) ≡ Ok t
+  chosen : tiling_chosen file (rule_asked q) ≡ Ok t
   holds : P file
 
 left_false : (a b : Bool) → a || b ≡ false → a ≡ false
@@ -90,18 +90,18 @@ right_false : (a b : Bool) → a || b ≡ false → b ≡ false
 right_false true b e = absurd (cc e)
 right_false false b e = e
 
-rule_has_file : (q : Request) (b : Bool) → is_file (rule_of q) ≡ b → has_file q ≡ b || has_own_file q
+rule_has_file : (q : Request) (b : Bool) → is_file (rule_asked q) ≡ b → has_file q ≡ b || has_own_file q
 rule_has_file q b e = ap (λ c. c || has_own_file q) e
 
 module _ (q : Request) (t : Tiling) (left mid rest : Option (List ℕ)) (P : List ℕ → Type 0)
-    (without : rule_of q ≡ File → (file other : List ℕ) → P file → P other)
-    (rule : IsRuleRead (rule_of q) left mid t) (unread : is_file (rule_of q) ≡ false → mid ≡ left)
+    (without : rule_asked q ≡ File → (file other : List ℕ) → P file → P other)
+    (rule : IsRuleRead (rule_asked q) left mid t) (unread : is_file (rule_asked q) ≡ false → mid ≡ left)
     (unread_own : has_own_file q ≡ false → rest ≡ mid) (own : OfOwnFile q mid rest P) where
-  by_choice : (choice : RuleChoice) → rule_of q ≡ choice → OfItsFile q left rest t P
+  by_choice : (choice : RuleChoice) → rule_asked q ≡ choice → OfItsFile q left rest t P
   by_choice File e =
       let n : longest_for q ≡ longest_file = ap (λ k. longest_of k) (rule_kind q e) in
-      let reads : is_file (rule_of q) ≡ has_file q = ap is_file e ∙ sym (rule_has_file q true (ap is_file e)) in
-      let there = subst (λ r. WasFileIn longest_file (is_file (rule_of q)) left r rule.file) (sym (unread_own (own_or_rule q e))) rule.read in
+      let reads : is_file (rule_asked q) ≡ has_file q = ap is_file e ∙ sym (rule_has_file q true (ap is_file e)) in
+      let there = subst (λ r. WasFileIn longest_file (is_file (rule_asked q)) left r rule.file) (sym (unread_own (own_or_rule q e))) rule.read in
       record {
         file = rule.file;
         read = subst (λ m. WasFileIn m (has_file q) left rest rule.file) (sym n)
@@ -120,7 +120,7 @@ module _ (q : Request) (t : Tiling) (left mid rest : Option (List ℕ)) (P : Lis
   }
 
   its_file : OfItsFile q left rest t P
-  its_file = by_choice (rule_of q) refl
+  its_file = by_choice (rule_asked q) refl
 
 -- ---- the call of right words
 module _ (words : List (List ℕ)) (handed : List Format) (q : Request) (right : request_in words ≡ Ok q) (have : HaveLayers q handed) where
@@ -128,11 +128,11 @@ module _ (words : List (List ℕ)) (handed : List Format) (q : Request) (right :
   reads_is = ap (λ r. has_file_in r handed) right ∙ ap (λ l. is_none l && has_file q) have
 
   -- where none is read, none is read for the rule, nor by the request itself
-  pub rule_unread : reads_file words handed ≡ false → is_file (rule_of q) ≡ false
-  rule_unread e = left_false (is_file (rule_of q)) (has_own_file q) (sym reads_is ∙ e)
+  pub rule_unread : reads_file words handed ≡ false → is_file (rule_asked q) ≡ false
+  rule_unread e = left_false (is_file (rule_asked q)) (has_own_file q) (sym reads_is ∙ e)
 
   pub own_unread : reads_file words handed ≡ false → has_own_file q ≡ false
-  own_unread e = right_false (is_file (rule_of q)) (has_own_file q) (sym reads_is ∙ e)
+  own_unread e = right_false (is_file (rule_asked q)) (has_own_file q) (sym reads_is ∙ e)
 
   longest_is : longest_read words ≡ longest_for q
   longest_is = ap longest_in right
@@ -140,7 +140,7 @@ module _ (words : List (List ℕ)) (handed : List Format) (q : Request) (right :
   abbrev call : List ℕ → Call
   call file = record { words = words; handed = handed; file = file }
 
-  is_right : (file : List ℕ) → IsRight (call file) q
+  is_right : (file : List ℕ) → AreRight (call file) q
   is_right file = record { asked = right; layers = have }
 
   was_asked : (left rest : Option (List ℕ)) (file : List ℕ)
@@ -166,12 +166,12 @@ module _ (words : List (List ℕ)) (handed : List Format) (q : Request) (right :
   )
 
   -- ---- the rule is refused
-  is_its_file : is_file (rule_of q) ≡ true → has_file q ≡ true
+  is_its_file : is_file (rule_asked q) ≡ true → has_file q ≡ true
   is_its_file e = rule_has_file q true e
 
-  module _ (left rest : Option (List ℕ)) (e : is_file (rule_of q) ≡ true) (file : List ℕ) where
+  module _ (left rest : Option (List ℕ)) (e : is_file (rule_asked q) ≡ true) (file : List ℕ) where
     rule_longest : longest_for q ≡ longest_file
-    rule_longest = ap (λ k. longest_of k) (rule_kind q (its_rule (rule_of q) e))
+    rule_longest = ap (λ k. longest_of k) (rule_kind q (its_rule (rule_asked q) e))
 
     rule_too_long : WasRead longest_file left rest file → longest_file < length file → OfCall words handed left rest (λ c. TellsTooLong c RuleTooLong)
     rule_too_long read long = (
@@ -183,12 +183,12 @@ module _ (words : List (List ℕ)) (handed : List Format) (q : Request) (right :
         right = is_right file;
         reads = is_its_file e;
         too_long = subst (λ n. n < length file) (sym rule_longest) long;
-        told = sym (ap (λ k. too_long_of k) (rule_kind q (its_rule (rule_of q) e)));
+        told = sym (ap (λ k. too_long_of k) (rule_kind q (its_rule (rule_asked q) e)));
       },
     )
 
     rule_faulty : (fault : RuleFault) → WasRead longest_file left rest file → length file ≤ longest_file
-        → tiling_chosen file (rule_of q) ≡ Err fault
+        → tiling_chosen file (rule_asked q) ≡ Err fault
         → OfCall words handed left rest (λ c. HasRuleFault c fault)
     rule_faulty fault read short first = (
       call file,
@@ -202,18 +202,18 @@ module _ (words : List (List ℕ)) (handed : List Format) (q : Request) (right :
   faulty_is_file File file fault e = refl
   faulty_is_file (Builtin name) file fault e = absurd (cc e)
 
-  pub rule_refused : (left rest : Option (List ℕ)) (s : Status) → IsRuleRefused (rule_of q) left rest s → IsRefused words handed left rest s
+  pub rule_refused : (left rest : Option (List ℕ)) (s : Status) → IsRuleRefused (rule_asked q) left rest s → IsRefused words handed left rest s
   rule_refused left rest NoMemory h = (q, right, have)
   rule_refused left rest ReadFault h = reads_is ∙ is_its_file h
   rule_refused left rest RuleTooLong h = rule_too_long left rest h.0 h.1 h.2 h.3
   rule_refused left rest (RuleRefused fault) h =
-      let file = faulty_is_file (rule_of q) h.1 fault h.4 in
+      let file = faulty_is_file (rule_asked q) h.1 fault h.4 in
       (h.0, rule_faulty left rest file h.1 fault (subst (λ b. WasFileIn longest_file b left rest h.1) file h.2) h.3 h.4)
   rule_refused left rest s h = absurd h
 
   -- ---- the request itself
-  module _ (t : Tiling) (left mid rest : Option (List ℕ)) (rule : IsRuleRead (rule_of q) left mid t)
-      (unread : is_file (rule_of q) ≡ false → mid ≡ left) (unread_own : has_own_file q ≡ false → rest ≡ mid)
+  module _ (t : Tiling) (left mid rest : Option (List ℕ)) (rule : IsRuleRead (rule_asked q) left mid t)
+      (unread : is_file (rule_asked q) ≡ false → mid ≡ left) (unread_own : has_own_file q ≡ false → rest ≡ mid)
     where
       pub prints_asked : (text : List ℕ) → OfOwnFile q mid rest (λ file. IsPrinted q file t text) → OfCall words handed left rest (λ c. Prints c text)
       prints_asked text own =

@@ -11,7 +11,7 @@ use Rattle.rule_model.specs.Tiling.{Tiling}
 use Rattle.star_walk.specs.declared.corner.Corner.{Corner}
 use Rattle.star_walk.specs.declared.star_fault.StarFault.{StarFault}
 use Rattle.star_walk.specs.declared.star_fault.StarFault.TheVariants.{DepthLimit, TooBig}
-use Rattle.star_walk.specs.Causes.{HasCause}
+use Rattle.star_walk.specs.Causes.{HasStarCause}
 use Rattle.star_walk.specs.Corners.{corner_in}
 use Rattle.call_notes.specs.declared.status.Status.{Status}
 use Rattle.tile_app.specs.Star.{corner_line, PassesStarLimits, StarRefuses}
@@ -31,7 +31,7 @@ corners-more t cs i k text new l is so_far e =
 
 -- a fault of the turn is refused for its cause
 pub turning_ends : (t : Tiling) (f : FrameValue) (vertex : ℕ) (passes : PassesStarLimits t f vertex) (frame : FrameValue) → GrowsTo t f frame
-    → (fault : StarFault) → HasCause t frame vertex fault → OrNoMemory (StarRefuses t f vertex) (status_of_star fault)
+    → (fault : StarFault) → HasStarCause t frame vertex fault → OrNoMemory (StarRefuses t f vertex) (status_of_star fault)
 turning_ends t f vertex passes frame grown (DepthLimit addr edge) cause = record { passes = passes; frame = frame; grown = grown; cause = cause }
 turning_ends t f vertex passes frame grown TooBig cause = record { passes = passes; frame = frame; grown = grown; cause = cause }
 

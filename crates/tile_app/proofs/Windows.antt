@@ -15,8 +15,8 @@ use Rattle.cyclo_points.proofs.Sizes.{double_difference}
 use Rattle.cyclo_points.proofs.Within.{within_wider, zero_within, point_wider}
 use Rattle.plane_geom.specs.declared.window.Window.{Window}
 use Rattle.window_cover.specs.Windows.{IsWindow}
-use Rattle.tile_app.specs.DrawnTile.{point_of}
-use Rattle.tile_app.specs.Windows.{reduced, window_in}
+use Rattle.tile_app.specs.DrawnTile.{point_of_number}
+use Rattle.tile_app.specs.Windows.{reduced, window_asked}
 
 pub window_made : (half : HalfExtents) {p q : Point} → p ≡ q
     → (let v : Window = record { centre = p; w = half.w; h = half.h } in v) ≡ record
@@ -25,7 +25,7 @@ window_made half e = ap (λ c. (let v : Window = record { centre = c; w = half.w
 
 -- ---- a centre is small, also where orders four and six reduce it
 reduced-within : (o : Order) (p : Point) → IsWithin (2 ^ 20) p → IsWithin (2 ^ 22) (reduced o p)
-reduced-within Four p h = subst (λ z. IsWithin (2 ^ 22) (point_of Four z)) (reduced_four (quad_of p)) (record {
+reduced-within Four p h = subst (λ z. IsWithin (2 ^ 22) (point_of_number Four z)) (reduced_four (quad_of p)) (record {
   at_0 = within_wider (2 * 2 ^ 20) (2 ^ 22) _ (lit≤ tt) (double_difference (2 ^ 20) _ _ h.at_0 h.at_2);
   at_1 = within_wider (2 * 2 ^ 20) (2 ^ 22) _ (lit≤ tt) (double_difference (2 ^ 20) _ _ h.at_1 h.at_3);
   at_2 = zero_within (2 ^ 22);
@@ -33,25 +33,25 @@ reduced-within Four p h = subst (λ z. IsWithin (2 ^ 22) (point_of Four z)) (red
 })
 reduced-within Six p h =
     let pair = pair_six-triples (2 ^ 20) p h in
-    subst (λ z. IsWithin (2 ^ 22) (point_of Six z)) (reduced_six (quad_of p)) (record {
+    subst (λ z. IsWithin (2 ^ 22) (point_of_number Six z)) (reduced_six (quad_of p)) (record {
       at_0 = within_wider (3 * 2 ^ 20) (2 ^ 22) _ (lit≤ tt) pair.at_0;
       at_1 = within_wider (3 * 2 ^ 20) (2 ^ 22) _ (lit≤ tt) pair.at_1;
       at_2 = zero_within (2 ^ 22);
       at_3 = zero_within (2 ^ 22);
     })
-reduced-within Eight p h = subst (λ z. IsWithin (2 ^ 22) (point_of Eight z)) (reduced_eight (quad_of p)) (whole p h)
+reduced-within Eight p h = subst (λ z. IsWithin (2 ^ 22) (point_of_number Eight z)) (reduced_eight (quad_of p)) (whole p h)
   where
-    whole : (p : Point) → IsWithin (2 ^ 20) p → IsWithin (2 ^ 22) (point_of Eight (quad_of p))
+    whole : (p : Point) → IsWithin (2 ^ 20) p → IsWithin (2 ^ 22) (point_of_number Eight (quad_of p))
     whole p h = let k = point_wider (2 ^ 20) (2 ^ 22) p (lit≤ tt) h in record { at_0 = k.at_0; at_1 = k.at_1; at_2 = k.at_2; at_3 = k.at_3 }
-reduced-within Ten p h = subst (λ z. IsWithin (2 ^ 22) (point_of Ten z)) (reduced_ten (quad_of p)) (whole p h)
+reduced-within Ten p h = subst (λ z. IsWithin (2 ^ 22) (point_of_number Ten z)) (reduced_ten (quad_of p)) (whole p h)
   where
-    whole : (p : Point) → IsWithin (2 ^ 20) p → IsWithin (2 ^ 22) (point_of Ten (quad_of p))
+    whole : (p : Point) → IsWithin (2 ^ 20) p → IsWithin (2 ^ 22) (point_of_number Ten (quad_of p))
     whole p h = let k = point_wider (2 ^ 20) (2 ^ 22) p (lit≤ tt) h in record { at_0 = k.at_0; at_1 = k.at_1; at_2 = k.at_2; at_3 = k.at_3 }
 
 -- the window of `verify`
 pub window-fits : (o : Order) (words : List (List ℕ)) (name : Name) (addr : List ℕ) (seed : ℕ)
     (window : WindowAsked) → request_in words ≡ Ok (Verify name addr seed window)
-    → IsWindow (window_in o window)
+    → IsWindow (window_asked o window)
 window-fits o words name addr seed window e =
     let fit = window-asked name addr seed window words e in
     record {

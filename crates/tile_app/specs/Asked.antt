@@ -10,8 +10,9 @@ abbrev pub IsFileIn : Bool → Option (List ℕ) → List ℕ → Type 0
 IsFileIn true left file = left ≡ Some file
 IsFileIn false left file = file ≡ []
 
--- The file that was read, of at most so many bytes, from a source that had some bytes left and now has the rest. If
--- the source reports its bytes, the file was read to its end, or it is too long and one byte more was read.
+-- The file that was read, of at most so many bytes, from a source that had some bytes left and now has the
+-- rest. If the source reports its bytes, the file was read to its end, or it is too long and one byte more
+-- was read.
 pub record WasRead (longest : ℕ) (left rest : Option (List ℕ)) (file : List ℕ) : Type 0 where
   pub given : Gives left rest file
   pub to_the_end : length file ≤ longest → IfSome rest (λ bytes. bytes ≡ [])
@@ -23,13 +24,15 @@ WasFileIn longest true left rest file = WasRead longest left rest file
 WasFileIn longest false left rest file = file ≡ []
 
 -- arguments, layers of these formats and a source that has these bytes left make this call
-pub record IsAsked (words : List (List ℕ)) (handed : List Format) (left : Option (List ℕ)) (c : Call) : Type 0 where
+pub record IsAsked (words : List (List ℕ)) (handed : List Format) (left : Option (List ℕ))
+    (c : Call) : Type 0 where
   pub by_words : c.words ≡ words
   pub by_layers : c.handed ≡ handed
   pub in_source : IsFileIn (reads_file words handed) left c.file
 
 -- they made it with a source that had some bytes left and now has the rest
-pub record WasAsked (words : List (List ℕ)) (handed : List Format) (left rest : Option (List ℕ)) (c : Call) : Type 0 where
+pub record WasAsked (words : List (List ℕ)) (handed : List Format) (left rest : Option (List ℕ))
+    (c : Call) : Type 0 where
   pub by_words : c.words ≡ words
   pub by_layers : c.handed ≡ handed
   pub from_source : WasFileIn (longest_read words) (reads_file words handed) left rest c.file

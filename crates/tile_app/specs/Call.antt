@@ -1,7 +1,7 @@
--- A call: the arguments, the formats of the layers handed in, and the file that is read. What it asks, and of which
--- tiling.
+-- A call: the arguments, the formats of the layers handed in, and the file that is read. What it asks, and of
+-- which tiling.
 use Rattle.std.specs.Prelude.{◌≡◌, ℕ, ◌<◌, ◌≤◌, Bool, true, false, ◌&&◌, List, length, Result, Ok, Err, is_none}
-use Rattle.call_words.specs.Request.{Request, request_in, rule_of}
+use Rattle.call_words.specs.Request.{Request, request_in, rule_asked}
 use Rattle.layer_api.specs.declared.format.Format.{Format}
 use Rattle.rule_model.specs.Tiling.{Tiling}
 use Rattle.rule_text.specs.Limits.{longest_file}
@@ -34,32 +34,32 @@ abbrev pub longest_read : List (List ℕ) → ℕ
 longest_read words = longest_in (request_in words)
 
 -- the arguments are right and ask this, and each format that they ask for has a layer
-pub record IsRight (c : Call) (q : Request) : Type 0 where
+pub record AreRight (c : Call) (q : Request) : Type 0 where
   pub asked : request_in c.words ≡ Ok q
   pub layers : HaveLayers q c.handed
 
 -- the file is not too long, and with it the request names this tiling
 pub record Names (c : Call) (q : Request) (t : Tiling) : Type 0 where
   pub not_too_long : length c.file ≤ longest_for q
-  pub chosen : tiling_chosen c.file (rule_of q) ≡ Ok t
+  pub chosen : tiling_chosen c.file (rule_asked q) ≡ Ok t
 
 -- the arguments are right and ask this of this tiling
 pub record Asks (c : Call) (q : Request) (t : Tiling) : Type 0 where
-  pub right : IsRight c q
+  pub right : AreRight c q
   pub names : Names c q t
 
 -- the arguments are right, and the file that they ask for is too long, which this status reports
 pub record TellsTooLong (c : Call) (status : Status) : Type 0 where
   pub request : Request
-  pub right : IsRight c request
+  pub right : AreRight c request
   pub reads : has_file request ≡ true
   pub too_long : longest_for request < length c.file
   pub told : status ≡ too_long_for request
 
--- the arguments are right, and the rule file that they ask for does not stand for an accepted rule: this is its first
--- fault
+-- the arguments are right, and the rule file that they ask for does not stand for an accepted rule: this is
+-- its first fault
 pub record HasRuleFault (c : Call) (fault : RuleFault) : Type 0 where
   pub request : Request
-  pub right : IsRight c request
+  pub right : AreRight c request
   pub not_too_long : length c.file ≤ longest_for request
-  pub first : tiling_chosen c.file (rule_of request) ≡ Err fault
+  pub first : tiling_chosen c.file (rule_asked request) ≡ Err fault

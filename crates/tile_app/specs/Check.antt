@@ -8,5 +8,6 @@ use Rattle.rule_model.specs.Tiling.{Tiling}
 -- the line of an accepted rule: `accepted order N kinds K types T`
 abbrev pub check_line : Tiling → List ℕ
 check_line t =
-    codes "accepted order " ++ decimal (points_of t.order).order ++ codes " kinds " ++ decimal (length t.rule.kinds)
+    codes "accepted order " ++ decimal (points_of t.order).order ++ codes " kinds "
+    ++ decimal (length t.rule.kinds)
     ++ codes " types " ++ decimal (length t.rule.types) ++ newline ∷ []

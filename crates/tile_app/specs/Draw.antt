@@ -15,8 +15,8 @@ use Rattle.rule_model.specs.Tiling.{Tiling}
 use Rattle.tile_place.specs.declared.placed_tile.PlacedTile.{PlacedTile}
 use Rattle.window_cover.specs.declared.cover_fault.CoverFault.{CoverFault}
 use Rattle.window_cover.specs.declared.cover_fault.CoverFault.TheVariants as cover
-use Rattle.window_cover.specs.Causes.{HasCause}
-use Rattle.window_cover.specs.Limits.{IsWithinLimits}
+use Rattle.window_cover.specs.Causes.{HasCoverCause}
+use Rattle.window_cover.specs.Limits.{IsCoverWithinLimits}
 use Rattle.call_notes.specs.declared.status.Status.{Status}
 use Rattle.call_notes.specs.declared.status.Status.TheVariants.{DepthLimit, CoordLimit, TooManyTiles}
 use Rattle.tile_app.specs.Glue.{IsWithinTheirLimits}
@@ -25,15 +25,22 @@ use Rattle.tile_app.specs.TilesOfWindow.{TilesOfWindow}
 
 -- what is seen of a tiling in a window
 abbrev pub view_of : Tiling → Window → View
-view_of t window = record { order = t.order; centre = window.centre; w = window.w; h = window.h; kinds = length t.rule.kinds }
+view_of t window = record {
+  order = t.order;
+  centre = window.centre;
+  w = window.w;
+  h = window.h;
+  kinds = length t.rule.kinds;
+}
 
 -- the texts of some formats for these tiles, one behind the other
 abbrev pub texts_of : View → List Drawn → List Format → List ℕ
 texts_of view tiles formats = flat_map (λ f. layer_text f view tiles) formats
 
--- The window can be drawn as it is asked for. In the frame these are the tiles of the window; and this is their picture: of these tiles, or with glue of the whole
--- tiles of theirs.
-pub record Pictures (glue : Bool) (t : Tiling) (f : FrameValue) (window : Window) (picture : List Drawn) : Type 0 where
+-- The window can be drawn as it is asked for. In the frame these are the tiles of the window; and this is
+-- their picture: of these tiles, or with glue of the whole tiles of theirs.
+pub record Pictures (glue : Bool) (t : Tiling) (f : FrameValue) (window : Window)
+    (picture : List Drawn) : Type 0 where
   pub within : IsWithinTheirLimits glue t f window
   pub frame : FrameValue
   pub tiles : List PlacedTile
@@ -41,27 +48,32 @@ pub record Pictures (glue : Bool) (t : Tiling) (f : FrameValue) (window : Window
   pub is_picture : IsPictureOf glue t window frame tiles picture
 
 -- the text is that of each format, one behind the other, for the window and its picture
-pub record PrintsDraw (glue : Bool) (formats : List Format) (t : Tiling) (f : FrameValue) (window : Window) (text : List ℕ) : Type 0 where
+pub record PrintsDraw (glue : Bool) (formats : List Format) (t : Tiling) (f : FrameValue) (window : Window)
+    (text : List ℕ) : Type 0 where
   pub picture : List Drawn
   pub pictures : Pictures glue t f window picture
   pub is_text : text ≡ texts_of (view_of t window) picture formats
 
--- the window can't be drawn as it is asked for: it isn't within the limits of the frame, or with glue its tiles can't be glued
+-- the window can't be drawn as it is asked for: it isn't within the limits of the frame, or with glue its
+-- tiles can't be glued
 abbrev pub PassesLimits : Bool → Tiling → FrameValue → Window → Type 0
 PassesLimits glue t f window = IsWithinTheirLimits glue t f window → ⊥
 
--- the window isn't within the limits of the frame; and the search for its tiles, in the frame as it had grown then, has this cause to end
+-- the window isn't within the limits of the frame; and the search for its tiles, in the frame as it had grown
+-- then, has this cause to end
 pub record EndsDrawing (t : Tiling) (f : FrameValue) (window : Window) (fault : CoverFault) : Type 0 where
-  pub beyond : IsWithinLimits t f window → ⊥
+  pub beyond : IsCoverWithinLimits t f window → ⊥
   pub frame : FrameValue
   pub grown : GrowsTo t f frame
-  pub cause : HasCause t f frame window fault
+  pub cause : HasCoverCause t f frame window fault
 
--- whole tiles are asked for, and the window is within the limits of the frame, but not all of its tiles, at the least enough depth, can be glued; and the gluing,
--- in the frame as it had grown on then, has this cause to end
-pub record EndsGluing (asked : Bool) (t : Tiling) (f : FrameValue) (window : Window) (fault : GlueFault) : Type 0 where
+-- whole tiles are asked for, and the window is within the limits of the frame, but not all of its tiles, at
+-- the least enough depth, can be glued; and the gluing, in the frame as it had grown on then, has this cause
+-- to end
+pub record EndsGluing (asked : Bool) (t : Tiling) (f : FrameValue) (window : Window)
+    (fault : GlueFault) : Type 0 where
   pub is_asked : asked ≡ true
-  pub within : IsWithinLimits t f window
+  pub within : IsCoverWithinLimits t f window
   pub frame : FrameValue
   pub tiles : List PlacedTile
   pub exactly : TilesOfWindow t f window frame tiles
@@ -72,7 +84,9 @@ pub record EndsGluing (asked : Bool) (t : Tiling) (f : FrameValue) (window : Win
 
 -- why `draw` refuses a window: for each status its cause
 abbrev pub DrawRefuses : Bool → Tiling → FrameValue → Window → Status → Type 0
-DrawRefuses asked t f window (DepthLimit addr edge) = EndsDrawing t f window (cover.DepthLimit addr edge) ⊎ EndsGluing asked t f window (glue.DepthLimit addr edge)
-DrawRefuses asked t f window (CoordLimit value) = EndsDrawing t f window (cover.CoordLimit value) ⊎ EndsGluing asked t f window (glue.CoordLimit value)
+DrawRefuses asked t f window (DepthLimit addr edge) = EndsDrawing t f window (cover.DepthLimit addr edge)
+    ⊎ EndsGluing asked t f window (glue.DepthLimit addr edge)
+DrawRefuses asked t f window (CoordLimit value) = EndsDrawing t f window (cover.CoordLimit value)
+    ⊎ EndsGluing asked t f window (glue.CoordLimit value)
 DrawRefuses asked t f window TooManyTiles = EndsDrawing t f window cover.TooManyTiles
 DrawRefuses asked t f window _ = ⊥

@@ -18,44 +18,50 @@ use Rattle.layer_api.specs.declared.drawn.Drawn.{Drawn}
 use Rattle.layer_api.specs.declared.part.Part.{Part}
 
 -- a number of an order as a point of the program
-abbrev pub point_of : (o : Order) → NumberOf o → Point
-point_of o z = record { c = coefficients o z }
+abbrev pub point_of_number : (o : Order) → NumberOf o → Point
+point_of_number o z = record { c = coefficients o z }
 
--- The tile as it is drawn without glue: its kind is its class, its prototile moved by its motion is its outline, and it has no second part.
+-- The tile as it is drawn without glue: its kind is its class, its prototile moved by its motion is its
+-- outline, and it has no second part.
 abbrev pub drawn_of : Tiling → PlacedTile → Drawn
 drawn_of t x = record {
   class = x.kind;
-  outline = record { items = map (λ z. point_of t.order (moved (points_of t.order) (motion_in t.order x.motion) z)) (vertices_of t.rule x.kind) };
+  outline = record {
+    items = map (λ z. point_of_number t.order (moved (points_of t.order) (motion_in t.order x.motion) z))
+        (vertices_of t.rule x.kind);
+  };
   first = record { kind = x.kind; motion = x.motion; addr = x.addr };
   second = None;
 }
 
 -- a tile as a part of what is drawn
-abbrev pub part_of : PlacedTile → Part
-part_of x = record { kind = x.kind; motion = x.motion; addr = x.addr }
+abbrev pub part_drawn : PlacedTile → Part
+part_drawn x = record { kind = x.kind; motion = x.motion; addr = x.addr }
 
 -- a part of what is drawn as a tile
-abbrev pub tile_of : Part → PlacedTile
-tile_of p = record { kind = p.kind; motion = p.motion; addr = p.addr }
+abbrev pub tile_drawn : Part → PlacedTile
+tile_drawn p = record { kind = p.kind; motion = p.motion; addr = p.addr }
 
 -- the whole tile of these parts
 abbrev pub whole_by : Part → Option Part → WholeTile
-whole_by first second = record { first = tile_of first; second = option_map tile_of second }
+whole_by first second = record { first = tile_drawn first; second = option_map tile_drawn second }
 
--- The whole tile as it is drawn: the kind of its first half is its class, the halves glued are its outline, and they are its parts.
+-- The whole tile as it is drawn: the kind of its first half is its class, the halves glued are its outline,
+-- and they are its parts.
 abbrev pub drawn_whole : Tiling → WholeTile → Drawn
 drawn_whole t w = record {
   class = w.first.kind;
-  outline = record { items = map (point_of t.order) (outline_of t w) };
-  first = part_of w.first;
-  second = option_map part_of w.second;
+  outline = record { items = map (point_of_number t.order) (outline_of t w) };
+  first = part_drawn w.first;
+  second = option_map part_drawn w.second;
 }
 
 -- where a motion takes a vertex of a prototile
 abbrev pub placed_point : Order → Motion → Point → Point
-placed_point o m v = point_of o (moved (points_of o) (motion_in o m) (point_in o v))
+placed_point o m v = point_of_number o (moved (points_of o) (motion_in o m) (point_in o v))
 
--- a tile whose outline can be written: its kind exists, and its motion is one of the order with no refused shift
+-- a tile whose outline can be written: its kind exists, and its motion is one of the order with no refused
+-- shift
 pub record CanBeDrawn (t : Tiling) (x : PlacedTile) : Type 0 where
   pub exists : x.kind < length t.rule.kinds
   pub turn_below : x.motion.turn < (points_of t.order).order

@@ -13,8 +13,8 @@ use Rattle.tile_app.specs.Neighbour.{neighbour_line}
 use Rattle.tile_app.specs.Pictures.{IsPictureOf}
 use Rattle.tile_app.specs.TilesOfWindow.{TilesOfWindow}
 
--- The text is the line of the only tile across the edge, with both tiles placed in their common supertile. The edge
--- of that tile leads back.
+-- The text is the line of the only tile across the edge, with both tiles placed in their common supertile.
+-- The edge of that tile leads back.
 pub record TellsOnlyNeighbour (t : Tiling) (a : Address) (edge : ℕ) (text : List ℕ) : Type 0 where
   pub across : Address
   pub back : ℕ
@@ -22,9 +22,11 @@ pub record TellsOnlyNeighbour (t : Tiling) (a : Address) (edge : ℕ) (text : Li
   pub leads_back : IsOnlyAcross t across back a edge
   pub line : text ≡ neighbour_line across back
 
--- The texts are those of exactly the tiles that meet the window. Each comes exactly once; they are disjoint and cover
--- the window. The base's frame has the least depth that is enough. With glue these are the whole tiles.
-pub record WritesExactlyTheWindow (t : Tiling) (f : FrameValue) (window : Window) (glue : Bool) (formats : List Format) (text : List ℕ) : Type 0 where
+-- The texts are those of exactly the tiles that meet the window. Each comes exactly once; they are disjoint
+-- and cover the window. The base's frame has the least depth that is enough. With glue these are the whole
+-- tiles.
+pub record WritesExactlyTheWindow (t : Tiling) (f : FrameValue) (window : Window) (glue : Bool)
+    (formats : List Format) (text : List ℕ) : Type 0 where
   pub frame : FrameValue
   pub tiles : List PlacedTile
   pub exactly : TilesOfWindow t f window frame tiles

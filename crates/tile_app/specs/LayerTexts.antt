@@ -15,14 +15,16 @@ pub record HasDrawn {D : Type 0} (seen : D → View) (ended : D → Bool) (draws
   pub has_ended : IsTrue (ended layer)
   pub its_picture : draws layer picture
 
-module _ {D : Type 0} (form : D → Format) (seen : D → View) (ended : D → Bool) (draws : D → List Drawn → Type 0) where
+module _ {D : Type 0} (form : D → Format) (seen : D → View) (ended : D → Bool)
+    (draws : D → List Drawn → Type 0) where
   -- the first layer with a format has drawn them
   abbrev pub FirstHasDrawn : View → List Drawn → List D → Format → Type 0
   FirstHasDrawn view picture layers format =
-      (place : ℕ) → position (λ f. same_format f format) (map form layers) ≡ Some place → HoldsAt (HasDrawn seen ended draws view picture) layers place
+      (place : ℕ) → position (λ f. same_format f format) (map form layers) ≡ Some place
+      → HoldsAt (HasDrawn seen ended draws view picture) layers place
 
-  -- Each of these formats has a layer, and the first layers with them have drawn the same tiles of the same view. This is the text of these layers, one behind
-  -- the other.
+  -- Each of these formats has a layer, and the first layers with them have drawn the same tiles of the same
+  -- view. This is the text of these layers, one behind the other.
   pub record HaveText (layers : List D) (formats : List Format) (text : List ℕ) : Type 0 where
     pub have_layers : first_lacking (map form layers) formats ≡ None
     pub view : View

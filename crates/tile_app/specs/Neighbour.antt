@@ -13,13 +13,14 @@ use Rattle.call_notes.specs.declared.status.Status.TheVariants.{NoEdge, Outside}
 abbrev pub neighbour_line : Address → ℕ → List ℕ
 neighbour_line across edge = address_text across ++ blank ∷ decimal edge ++ newline ∷ []
 
--- the tile has the edge, and the edge is not on the supertile's boundary: it lies along no edge of its polygon
+-- the tile has the edge, and the edge is not on the supertile's boundary: it lies along no edge of its
+-- polygon
 pub record IsInside (t : Tiling) (a : Address) (edge : ℕ) : Type 0 where
   pub exists : edge < edges_of t a.kind
   pub on_none : LiesAlongNone t a edge
 
--- The edge is inside the supertile, and the text is the line of a tile and an edge of it. With both tiles placed in
--- their common supertile, it is the only tile across the edge, and its edge leads back.
+-- The edge is inside the supertile, and the text is the line of a tile and an edge of it. With both tiles
+-- placed in their common supertile, it is the only tile across the edge, and its edge leads back.
 pub record PrintsNeighbour (t : Tiling) (a : Address) (edge : ℕ) (text : List ℕ) : Type 0 where
   pub inside : IsInside t a edge
   pub across : Address
@@ -33,8 +34,8 @@ pub record HasNoEdge (t : Tiling) (a : Address) (edge edges : ℕ) : Type 0 wher
   pub count : edges ≡ edges_of t a.kind
   pub beyond : edges ≤ edge
 
--- The cause of each refusal. On the boundary, the edge lies along one edge of the supertile's polygon, in one part of
--- it.
+-- The cause of each refusal. On the boundary, the edge lies along one edge of the supertile's polygon, in one
+-- part of it.
 abbrev pub NeighbourRefuses : Tiling → Address → ℕ → Status → Type 0
 NeighbourRefuses t a own (NoEdge edge edges) = (edge ≡ own) × HasNoEdge t a own edges
 NeighbourRefuses t a own (Outside edge part) = IsOutside t a own edge part

@@ -20,7 +20,8 @@ place_line o kind m = decimal kind ++ blank ∷ decimal m.turn ++ blank ∷ numb
 abbrev pub CanBePlaced : Tiling → Address → Type 0
 CanBePlaced t a = first_refused t a.digits ≡ None
 
--- the tile can be placed, and the text is the line of its kind and the motion by which it lies in its supertile
+-- the tile can be placed, and the text is the line of its kind and the motion by which it lies in its
+-- supertile
 pub record PrintsPlace (t : Tiling) (a : Address) (text : List ℕ) : Type 0 where
   pub within : CanBePlaced t a
   pub motion : MotionOf t

@@ -23,8 +23,8 @@ use Rattle.call_notes.specs.Status.{IsTrueFault}
 use Rattle.tile_app.specs.Tilings.{builtin_tiling}
 use Rattle.tile_app.specs.Verify.{PrintsVerify, VerifyRefuses}
 
--- a file of this kind was read to its end, from a source that had some bytes left and now has the rest, and this holds
--- of it
+-- a file of this kind was read to its end, from a source that had some bytes left and now has the rest, and
+-- this holds of it
 pub record OfFile (kind : FileKind) (left rest : Option (List ℕ)) (P : List ℕ → Type 0) : Type 0 where
   pub file : List ℕ
   pub read : WasRead (longest_of kind) left rest file
@@ -62,9 +62,11 @@ abbrev pub IsRuleRefused : RuleChoice → Option (List ℕ) → Option (List ℕ
 IsRuleRefused choice left rest NoMemory = Unit {0}
 IsRuleRefused choice left rest ReadFault = is_file choice ≡ true
 IsRuleRefused choice left rest RuleTooLong =
-    (is_file choice ≡ true) × (file : List ℕ) × WasRead longest_file left rest file × (longest_file < length file)
+    (is_file choice ≡ true) × (file : List ℕ) × WasRead longest_file left rest file
+    × (longest_file < length file)
 IsRuleRefused choice left rest (RuleRefused fault) =
-    IsTrueFault fault × (file : List ℕ) × WasFileIn longest_file (is_file choice) left rest file × (length file ≤ longest_file) × (tiling_chosen file choice ≡ Err fault)
+    IsTrueFault fault × (file : List ℕ) × WasFileIn longest_file (is_file choice) left rest file
+    × (length file ≤ longest_file) × (tiling_chosen file choice ≡ Err fault)
 IsRuleRefused choice left rest _ = ⊥
 
 -- ---- `calc`
@@ -74,16 +76,20 @@ IsScriptPrinted t left rest text = OfFile Script left rest (λ file. PrintsCalc 
 abbrev pub IsScriptRefused : Tiling → Option (List ℕ) → Option (List ℕ) → Status → Type 0
 IsScriptRefused t left rest NoMemory = Unit {0}
 IsScriptRefused t left rest ReadFault = Unit {0}
-IsScriptRefused t left rest status = IsTooLong Script left rest status ⊎ OfFile Script left rest (λ file. CalcRefuses file t status)
+IsScriptRefused t left rest status = IsTooLong Script left rest status
+    ⊎ OfFile Script left rest (λ file. CalcRefuses file t status)
 
 -- ---- `verify`, of a window in a frame
-abbrev pub IsListingPrinted : Tiling → FrameValue → Window → Option (List ℕ) → Option (List ℕ) → List ℕ → Type 0
+abbrev pub IsListingPrinted : Tiling → FrameValue → Window → Option (List ℕ) → Option (List ℕ) → List ℕ
+    → Type 0
 IsListingPrinted t f w left rest text = OfFile Listing left rest (λ file. PrintsVerify t f w file text)
 
-abbrev pub IsListingRefused : Tiling → FrameValue → Window → Option (List ℕ) → Option (List ℕ) → Status → Type 0
+abbrev pub IsListingRefused : Tiling → FrameValue → Window → Option (List ℕ) → Option (List ℕ) → Status
+    → Type 0
 IsListingRefused t f w left rest NoMemory = Unit {0}
 IsListingRefused t f w left rest ReadFault = Unit {0}
-IsListingRefused t f w left rest status = IsTooLong Listing left rest status ⊎ OfFile Listing left rest (λ file. VerifyRefuses t f w file status)
+IsListingRefused t f w left rest status = IsTooLong Listing left rest status
+    ⊎ OfFile Listing left rest (λ file. VerifyRefuses t f w file status)
 
 -- ---- a request, of the tiling of its rule
 abbrev pub IsItsTiling : Request → Tiling → Type 0
@@ -110,4 +116,5 @@ pub record IsOwnTooLong (q : Request) (left rest : Option (List ℕ)) (status : 
 abbrev pub IsRequestRefused : Request → Tiling → Option (List ℕ) → Option (List ℕ) → Status → Type 0
 IsRequestRefused q t left rest NoMemory = Unit {0}
 IsRequestRefused q t left rest ReadFault = has_own_file q ≡ true
-IsRequestRefused q t left rest status = IsOwnTooLong q left rest status ⊎ OfOwnFile q left rest (λ file. Refuses q file t status)
+IsRequestRefused q t left rest status = IsOwnTooLong q left rest status
+    ⊎ OfOwnFile q left rest (λ file. Refuses q file t status)

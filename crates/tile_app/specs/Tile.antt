@@ -3,7 +3,7 @@ use Rattle.std.specs.Prelude.{◌≡◌, ℕ, Bool, List, is_ok}
 use Rattle.theory_addresses.specs.Address.{Address}
 use Rattle.rule_model.specs.Tiling.{Tiling, children}
 use Rattle.tile_shape.specs.Accepted.{IsAcceptedAddress}
-use Rattle.tile_shape.specs.AddressIn.{address_in}
+use Rattle.tile_shape.specs.AddressIn.{address_of_text}
 use Rattle.tile_shape.specs.declared.address_fault.AddressFault.{AddressFault}
 use Rattle.tile_shape.specs.Refused.{IsFaultOf}
 use Rattle.tile_shape.specs.Text.{address_text}
@@ -24,7 +24,7 @@ pub record IsNoTile (t : Tiling) (text : List ℕ) (fault : AddressFault) : Type
 
 -- true if the text is the address of a tile of the tiling, as a test that computes
 abbrev pub is_tile : Tiling → List ℕ → Bool
-is_tile t text = is_ok (address_in (children t) text)
+is_tile t text = is_ok (address_of_text (children t) text)
 
 -- the text is the address of a tile, and this holds of the tile
 pub record OfTile (t : Tiling) (text : List ℕ) (P : Address → Type 0) : Type 0 where

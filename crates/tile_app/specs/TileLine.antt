@@ -17,4 +17,5 @@ number_or_dash (Some number) = decimal number
 -- the line of a tile: `kind turn shift address number`
 abbrev pub tile_line : (o : Order) → Address → Motion (NumberOf o) → Option ℕ → List ℕ
 tile_line o a m number =
-    decimal a.kind ++ blank ∷ decimal m.turn ++ blank ∷ number_text o m.shift ++ blank ∷ address_text a ++ blank ∷ number_or_dash number ++ newline ∷ []
+    decimal a.kind ++ blank ∷ decimal m.turn ++ blank ∷ number_text o m.shift ++ blank ∷ address_text a
+    ++ blank ∷ number_or_dash number ++ newline ∷ []

@@ -27,14 +27,16 @@ abbrev pub CanVerify : Tiling → FrameValue → Window → List ℕ → Type 0
 CanVerify t f window file = (lines : ℕ) × IsVerified t f window file lines
 
 -- the cause of a fault of the file, in the frame as it had grown by then
-pub record HasListFault (t : Tiling) (f : FrameValue) (window : Window) (file : List ℕ) (fault : ListFault) : Type 0 where
+pub record HasListFault (t : Tiling) (f : FrameValue) (window : Window) (file : List ℕ)
+    (fault : ListFault) : Type 0 where
   pub frame : FrameValue
   pub grown : GrowsTo t f frame
   pub cause : HasCause t f frame window file fault
 
 -- the cause of each refusal
 abbrev pub VerifyRefuses : Tiling → FrameValue → Window → List ℕ → Status → Type 0
-VerifyRefuses t f window file (DepthLimit addr edge) = HasListFault t f window file (listing.DepthLimit addr edge)
+VerifyRefuses t f window file (DepthLimit addr edge) =
+    HasListFault t f window file (listing.DepthLimit addr edge)
 VerifyRefuses t f window file (CoordLimit value) = HasListFault t f window file (listing.CoordLimit value)
 VerifyRefuses t f window file (BadListing (listing.DepthLimit addr edge)) = ⊥
 VerifyRefuses t f window file (BadListing (listing.CoordLimit value)) = ⊥
@@ -44,7 +46,8 @@ VerifyRefuses t f window file _ = ⊥
 
 -- a list of a window has one verdict, in a frame of the tiling
 abbrev pub OneVerdictIn : Tiling → Type 0
-OneVerdictIn t = (f : FrameValue) (w : Window) (listing : List ℕ) → IsFrameOf t f → IsWindow w → HasOneVerdict t f w listing
+OneVerdictIn t = (f : FrameValue) (w : Window) (listing : List ℕ) → IsFrameOf t f → IsWindow w
+    → HasOneVerdict t f w listing
 
 -- in the tilings of the built-in rules, each list has one verdict
 abbrev pub BuiltinVerdictLaw : Type 0

@@ -27,7 +27,8 @@ pub record IsWalkLine (t : Tiling) (frame a : Address) (back : Option ℕ) (line
 abbrev pub AreLines : Tiling → Address → Address → List ℕ → Address → List ℕ → Type 0
 AreLines t frame a [] b text = (b ≡ a) × (text ≡ [])
 AreLines t frame a (e ∷ path) b text =
-    (x : Address) × (back : ℕ) × (line rest : List ℕ) × IsOnlyAcross t a e x back × IsWalkLine t frame x (Some back) line × (text ≡ line ++ rest) × AreLines t frame x path b rest
+    (x : Address) × (back : ℕ) × (line rest : List ℕ) × IsOnlyAcross t a e x back
+    × IsWalkLine t frame x (Some back) line × (text ≡ line ++ rest) × AreLines t frame x path b rest
 
 -- the text of a walk: the line of the base, and those of the path from it
 pub record IsWalkText (t : Tiling) (frame : Address) (path text : List ℕ) : Type 0 where
@@ -42,8 +43,9 @@ pub record IsWalkText (t : Tiling) (frame : Address) (path text : List ℕ) : Ty
 abbrev pub CanWalk : Tiling → FrameValue → List ℕ → Type 0
 CanWalk t f path = CanBeWalked t (frame_at t f 64) path
 
--- The path can be walked, and the text is that of the walk in the frame of the least depth at which no edge of the
--- path is on the boundary. That depth is not below the depth of the base, nor the one to which the frame grows first.
+-- The path can be walked, and the text is that of the walk in the frame of the least depth at which no edge
+-- of the path is on the boundary. That depth is not below the depth of the base, nor the one to which the
+-- frame grows first.
 pub record PrintsWalk (t : Tiling) (f : FrameValue) (grow : ℕ) (path text : List ℕ) : Type 0 where
   pub walked : CanWalk t f path
   pub level : ℕ
@@ -52,8 +54,8 @@ pub record PrintsWalk (t : Tiling) (f : FrameValue) (grow : ℕ) (path text : Li
   pub least : (n : ℕ) → max (depth f.base) grow ≤ n → n < level → IsStopped t (frame_at t f n) path
   pub is_text : IsWalkText t (frame_at t f level) path text
 
--- The cause of each refusal. In the frame of depth 64 the path comes to a tile that does not have its next edge, or to
--- a tile whose next edge is on the boundary. No value is refused.
+-- The cause of each refusal. In the frame of depth 64 the path comes to a tile that does not have its next
+-- edge, or to a tile whose next edge is on the boundary. No value is refused.
 abbrev pub WalkRefuses : Tiling → FrameValue → List ℕ → Status → Type 0
 WalkRefuses t f path (NoEdge edge edges) = LacksEdge t (frame_at t f 64) path edge edges
 WalkRefuses t f path (DepthLimit addr edge) = IsStoppedAt t (frame_at t f 64) path (address_of addr) edge

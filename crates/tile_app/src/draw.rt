@@ -12,7 +12,7 @@ ghost use Rattle.tile_app.specs.Draw.{view_of, Pictures, PrintsDraw, DrawRefuses
 ghost use Rattle.tile_app.specs.LayerTexts.{FirstHasDrawn, IsTextOf};
 ghost use Rattle.tile_app.specs.Pictured.{picture_of, CanBePictured};
 ghost use Rattle.call_notes.specs.Status.{OrNoMemory};
-ghost use Rattle.tile_app.specs.Windows.{window_in};
+ghost use Rattle.tile_app.specs.Windows.{window_asked};
 
 use crate::drawn_tile::blank;
 use crate::glue_edges::GlueEdges;
@@ -171,10 +171,10 @@ pub fn draw_text<D: Layer>(
     requires have_layers { first_lacking (map D.form layers.old) formats.now.items ≡ None }
     ensures printed { IfOk result (λ answer. (text : List ℕ)
         × PrintsDraw whole formats.now.items (tiling_of machine.now) frame.old
-        (window_in machine.now.order (window_of asked.now)) text
+        (window_asked machine.now.order (window_of asked.now)) text
         × IsTextOf D.form D.seen D.ended D.draws layers.new answer text) }
     ensures refused { IfErr result (OrNoMemory (DrawRefuses whole (tiling_of machine.now) frame.old
-        (window_in machine.now.order (window_of asked.now)))) }
+        (window_asked machine.now.order (window_of asked.now)))) }
 {
     let window = window_in(machine.checked().order(), asked);
     let picture = pictured(alloc, machine, whole, frame, &window)?;

@@ -9,7 +9,7 @@ ghost use Rattle.rule_model.specs.Views.{rule_of};
 ghost use Rattle.theory_substitution.specs.Motion.{moved};
 ghost use Rattle.theory_substitution.specs.RuleParts.{vertices_of, edge_count};
 ghost use Rattle.tile_app.specs.GlueEdges.{AreGlueEdges};
-ghost use Rattle.tile_app.specs.DrawnTile.{point_of, tile_of, whole_by, drawn_of, drawn_whole, CanBeDrawn, IsDrawableHalf, CanBeDrawnWhole};
+ghost use Rattle.tile_app.specs.DrawnTile.{point_of_number, tile_drawn, whole_by, drawn_of, drawn_whole, CanBeDrawn, IsDrawableHalf, CanBeDrawnWhole};
 
 use crate::glue_edges::GlueEdges;
 use arrayvec::ArrayVec;
@@ -55,9 +55,9 @@ fn resize(outline: &mut ArrayVec<Point, MOST_VERTICES>, count: usize)
 /// Overwrites points with as many vertices of a tile, in order, from one number on.
 fn overwrite(points: &mut [Point], machine: &Machine, part: &Part, first: usize)
     requires there { first + length points.old ≤ edge_count (rule_of machine.now) part.now.kind }
-    requires can { CanBeDrawn (tiling_of machine.now) (tile_of part.now) }
+    requires can { CanBeDrawn (tiling_of machine.now) (tile_drawn part.now) }
     ensures near { All (IsNear machine.now.order) points.new }
-    ensures placed { points.new ≡ map (λ z. point_of machine.now.order
+    ensures placed { points.new ≡ map (λ z. point_of_number machine.now.order
         (moved (points_of machine.now.order) (motion_in machine.now.order part.now.motion) z))
         (take (length points.old) (drop first (vertices_of (rule_of machine.now) part.now.kind))) }
 {
@@ -69,10 +69,10 @@ fn overwrite(points: &mut [Point], machine: &Machine, part: &Part, first: usize)
 
 /// Replaces an outline by that of a tile.
 fn put_tile(outline: &mut ArrayVec<Point, MOST_VERTICES>, machine: &Machine, part: &Part)
-    requires can { CanBeDrawn (tiling_of machine.now) (tile_of part.now) }
+    requires can { CanBeDrawn (tiling_of machine.now) (tile_drawn part.now) }
     ensures three { 3 ≤ length outline.new.items }
     ensures near { All (IsNear machine.now.order) outline.new.items }
-    ensures placed { outline.new.items ≡ map (λ z. point_of machine.now.order
+    ensures placed { outline.new.items ≡ map (λ z. point_of_number machine.now.order
         (moved (points_of machine.now.order) (motion_in machine.now.order part.now.motion) z))
         (vertices_of (rule_of machine.now) part.now.kind) }
 {
@@ -85,11 +85,11 @@ fn put_tile(outline: &mut ArrayVec<Point, MOST_VERTICES>, machine: &Machine, par
 fn overwrite_first_half(points: &mut [Point], machine: &Machine, edges: &GlueEdges, half: &Part)
     requires edges { AreGlueEdges (tiling_of machine.now) edges.now }
     requires as_many { length points.old ≡ edge_count (rule_of machine.now) half.now.kind }
-    requires half { IsDrawableHalf (tiling_of machine.now) (tile_of half.now) }
+    requires half { IsDrawableHalf (tiling_of machine.now) (tile_drawn half.now) }
     ensures near { All (IsNear machine.now.order) points.new }
-    ensures placed { points.new ≡ map (point_of machine.now.order)
+    ensures placed { points.new ≡ map (point_of_number machine.now.order)
         (begun_behind (glue_edge_of (rule_of machine.now) half.now.kind)
-        (vertices_in_place (tiling_of machine.now) (tile_of half.now))) }
+        (vertices_in_place (tiling_of machine.now) (tile_drawn half.now))) }
 {
     let _each_edge = machine.checked().vertices(half.kind);
     let after = edges.of(machine, half) + 1;
@@ -104,11 +104,11 @@ fn overwrite_first_half(points: &mut [Point], machine: &Machine, edges: &GlueEdg
 fn overwrite_second_half(points: &mut [Point], machine: &Machine, edges: &GlueEdges, half: &Part)
     requires edges { AreGlueEdges (tiling_of machine.now) edges.now }
     requires as_many { length points.old + 2 ≡ edge_count (rule_of machine.now) half.now.kind }
-    requires half { IsDrawableHalf (tiling_of machine.now) (tile_of half.now) }
+    requires half { IsDrawableHalf (tiling_of machine.now) (tile_drawn half.now) }
     ensures near { All (IsNear machine.now.order) points.new }
-    ensures placed { points.new ≡ map (point_of machine.now.order) (inner_of
+    ensures placed { points.new ≡ map (point_of_number machine.now.order) (inner_of
         (begun_behind (glue_edge_of (rule_of machine.now) half.now.kind)
-        (vertices_in_place (tiling_of machine.now) (tile_of half.now)))) }
+        (vertices_in_place (tiling_of machine.now) (tile_drawn half.now)))) }
 {
     let _each_edge = machine.checked().vertices(half.kind);
     let edge = edges.of(machine, half);
@@ -130,12 +130,12 @@ fn put_halves(
     second: &Part,
 )
     requires edges { AreGlueEdges (tiling_of machine.now) edges.now }
-    requires first { IsDrawableHalf (tiling_of machine.now) (tile_of first.now) }
-    requires second { IsDrawableHalf (tiling_of machine.now) (tile_of second.now) }
+    requires first { IsDrawableHalf (tiling_of machine.now) (tile_drawn first.now) }
+    requires second { IsDrawableHalf (tiling_of machine.now) (tile_drawn second.now) }
     ensures three { 3 ≤ length outline.new.items }
     ensures near { All (IsNear machine.now.order) outline.new.items }
-    ensures placed { outline.new.items ≡ map (point_of machine.now.order)
-        (outline_by (tiling_of machine.now) (tile_of first.now) (Some (tile_of second.now))) }
+    ensures placed { outline.new.items ≡ map (point_of_number machine.now.order)
+        (outline_by (tiling_of machine.now) (tile_drawn first.now) (Some (tile_drawn second.now))) }
 {
     let count = machine.checked().vertices(first.kind).len();
     let inner = machine.checked().vertices(second.kind).len() - 2;
@@ -157,7 +157,7 @@ fn put_whole(
     requires can { CanBeDrawnWhole (tiling_of machine.now) (whole_by first.now second.now) }
     ensures three { 3 ≤ length outline.new.items }
     ensures near { All (IsNear machine.now.order) outline.new.items }
-    ensures placed { outline.new.items ≡ map (point_of machine.now.order)
+    ensures placed { outline.new.items ≡ map (point_of_number machine.now.order)
         (outline_of (tiling_of machine.now) (whole_by first.now second.now)) }
 {
     match second {
@@ -168,8 +168,8 @@ fn put_whole(
 
 /// Fills in a tile from its first part alone.
 pub fn fill(drawn: &mut Drawn, machine: &Machine)
-    requires can { CanBeDrawn (tiling_of machine.now) (tile_of drawn.old.first) }
-    ensures tile { drawn.new ≡ drawn_of (tiling_of machine.now) (tile_of drawn.old.first) }
+    requires can { CanBeDrawn (tiling_of machine.now) (tile_drawn drawn.old.first) }
+    ensures tile { drawn.new ≡ drawn_of (tiling_of machine.now) (tile_drawn drawn.old.first) }
     ensures drawable { IsDrawable machine.now.order drawn.new }
 {
     let kind = drawn.first.kind;

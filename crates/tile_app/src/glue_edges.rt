@@ -3,7 +3,7 @@ ghost use Rattle.std.specs.Prelude.{◌≡◌, ◌<◌};
 ghost use Rattle.rule_model.specs.Tiling.{tiling_of};
 ghost use Rattle.rule_model.specs.Views.{rule_of};
 ghost use Rattle.tile_app.specs.GlueEdges.{AreGlueEdges};
-ghost use Rattle.tile_app.specs.DrawnTile.{tile_of, IsDrawableHalf};
+ghost use Rattle.tile_app.specs.DrawnTile.{tile_drawn, IsDrawableHalf};
 ghost use Rattle.half_glue.specs.Outline.{glue_edge_of};
 ghost use Rattle.theory_substitution.specs.RuleParts.{edge_count};
 
@@ -32,7 +32,7 @@ impl GlueEdges {
     /// Returns the number of the glue edge of a half.
     pub fn of(&self, machine: &Machine, half: &Part) -> usize
         requires edges { AreGlueEdges (tiling_of machine.now) self.now }
-        requires half { IsDrawableHalf (tiling_of machine.now) (tile_of half.now) }
+        requires half { IsDrawableHalf (tiling_of machine.now) (tile_drawn half.now) }
         ensures edge { result ≡ glue_edge_of (rule_of machine.now) half.now.kind }
         ensures exists { result < edge_count (rule_of machine.now) half.now.kind }
     {

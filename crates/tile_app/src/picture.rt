@@ -3,7 +3,7 @@ ghost use Rattle.std.specs.Prelude.{◌≡◌, ◌<◌, Some, length, slice_get,
 ghost use Rattle.std.specs.Option.{is_some, option_map};
 ghost use Rattle.layer_api.specs.Drawable.{IsDrawable};
 ghost use Rattle.rule_model.specs.Tiling.{Tiling, tiling_of};
-ghost use Rattle.tile_app.specs.DrawnTile.{tile_of, whole_by};
+ghost use Rattle.tile_app.specs.DrawnTile.{tile_drawn, whole_by};
 ghost use Rattle.tile_app.specs.Pictured.{picture_of, CanBePictured};
 
 use crate::drawn_tile::{blank_part, fill, fill_whole};
@@ -76,7 +76,7 @@ fn put_parts(drawn: &mut Drawn, wholes: &GluedTiles, place: usize)
 fn put_second(second: &mut Option<Part>, wholes: &GluedTiles, place: usize)
     requires below { place < length wholes.now }
     requires is_pair { IfSome (slice_get wholes.now place) (λ w. IsTrue (is_some w.second)) }
-    ensures { IfSome (slice_get wholes.now place) (λ w. w.second ≡ option_map tile_of second.new) }
+    ensures { IfSome (slice_get wholes.now place) (λ w. w.second ≡ option_map tile_drawn second.new) }
 {
     match second {
         Some(part) => wholes.put_second(place, &mut part.kind, &mut part.motion, &mut part.addr),

@@ -19,7 +19,7 @@ ghost use Rattle.tile_app.specs.BaseFrame.{frame_of};
 ghost use Rattle.tile_app.specs.Call.{Call, Names, reads_file};
 ghost use Rattle.call_notes.specs.Status.{IsCutShort, IsLimit, IsRefusal};
 ghost use Rattle.tile_app.specs.Tile.{OfTile};
-ghost use Rattle.tile_app.specs.Windows.{window_in};
+ghost use Rattle.tile_app.specs.Windows.{window_asked};
 
 use crate::answer::answer_text;
 use crate::verify::builtin_verdict_law;
@@ -144,7 +144,7 @@ pub fn run<R: Source, W: Sink, N: Sink>(
         → OfCall (texts words.now.items) (map (λ d. form d) layers.items) (R.left source.old)
         (R.left source.new)
         (λ c. (t : Tiling) × (text : List ℕ) × Names c (Draw rule addr seed window formats glue) t
-        × OfTile t addr (λ a. WritesExactlyTheWindow t (frame_of a seed) (window_in t.order window) glue
+        × OfTile t addr (λ a. WritesExactlyTheWindow t (frame_of a seed) (window_asked t.order window) glue
         formats text)
         × Takes (W.taken sink.old) (W.taken sink.new) text) }
 

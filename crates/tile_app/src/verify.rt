@@ -6,7 +6,7 @@ ghost use Rattle.rule_model.specs.Tiling.{tiling_of};
 ghost use Rattle.tile_io.specs.Causes.{Rose};
 ghost use Rattle.tile_app.specs.BaseFrame.{IsBegun};
 ghost use Rattle.call_notes.specs.Status.{OrNoMemory};
-ghost use Rattle.tile_app.specs.Windows.{window_in};
+ghost use Rattle.tile_app.specs.Windows.{window_asked};
 ghost use Rattle.tile_app.specs.Verify.{right_line, PrintsVerify, VerifyRefuses, BuiltinVerdictLaw};
 ghost use Rattle.tile_app.specs.Reading.{IsListingPrinted, IsListingRefused};
 ghost use Rattle.window_cover.specs.Windows.{IsWindow};
@@ -66,10 +66,10 @@ pub fn verify_text<R: Source>(
     requires begun { IsBegun frame.old }
     requires asked { IsWindowAsked asked.now }
     ensures printed { IfOk result (λ text. IsListingPrinted (tiling_of machine.now) frame.old
-        (window_in machine.now.order (window_of asked.now)) (R.left source.old) (R.left source.new)
+        (window_asked machine.now.order (window_of asked.now)) (R.left source.old) (R.left source.new)
         text.items) }
     ensures refused { IfErr result (IsListingRefused (tiling_of machine.now) frame.old
-        (window_in machine.now.order (window_of asked.now)) (R.left source.old) (R.left source.new)) }
+        (window_asked machine.now.order (window_of asked.now)) (R.left source.old) (R.left source.new)) }
     ensures read_fault { IsErrOf result Status.ReadFault → Rose (R.faults source.old) (R.faults source.new) }
 {
     let window = window_in(machine.checked().order(), asked);

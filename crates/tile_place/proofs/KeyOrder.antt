@@ -13,7 +13,7 @@ use Rattle.cyclo_points.specs.Point.{Within, coefficient}
 use Rattle.cyclo_points.specs.declared.motion.Motion.{Motion}
 use Rattle.tile_place.specs.declared.order_key.OrderKey.{OrderKey}
 use Rattle.tile_place.specs.contracts.order_key.OrderKeyOrd.TheImpl as key_ord
-use Rattle.tile_place.specs.Keys.{order_numbers, raised_shift, pair_of, key_of, FitsKey}
+use Rattle.tile_place.specs.Keys.{order_numbers, raised_shift, packed_pair, key_of, FitsKey}
 
 -- the order by which keys are sorted
 abbrev pub key_cmp : OrderKey → OrderKey → Ordering
@@ -76,7 +76,7 @@ both-equal Greater p e = absurd (cc e)
 
 -- ---- keys
 pair-cmp : (a b c d : ℤ) → Within (2 ^ 24) a → Within (2 ^ 24) b → Within (2 ^ 24) c → Within (2 ^ 24) d
-    → nat_cmp (pair_of a b) (pair_of c d) ≡ ordering_then (int_cmp a c) (int_cmp b d)
+    → nat_cmp (packed_pair a b) (packed_pair c d) ≡ ordering_then (int_cmp a c) (int_cmp b d)
 pair-cmp a b c d s t u v =
     parts-cmp (2 ^ 26) (raised_shift a) (raised_shift b) (raised_shift c) (raised_shift d) (raised-below b t) (raised-below d v)
     ∙ ap₂ ordering_then (sym (raised-cmp a c s u)) (sym (raised-cmp b d t v))

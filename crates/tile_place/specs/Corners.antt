@@ -12,7 +12,8 @@ use Rattle.rule_model.specs.Usable.{origin}
 
 -- a corner of a tile: where the motion takes vertex number e of the kind
 pub record IsCorner (t : Tiling) (kind : ℕ) (m : Motion) (e : ℕ) (p : Point) : Type 0 where
-  pub place : point_in t.order p ≡ moved (points_of t.order) (motion_in t.order m) (vertex (points_of t.order) t.rule kind e)
+  pub place : point_in t.order p
+      ≡ moved (points_of t.order) (motion_in t.order m) (vertex (points_of t.order) t.rule kind e)
   pub within : IsWithin (2 ^ 25) p
   pub in_order : IsOf t.order p
 

@@ -27,7 +27,8 @@ IsOnlyAcross t a e b f = IsOnlyTileAcross (points_of t.order) t.rule (placed_til
 -- edge e of a lies along edge `own` of its supertile's polygon
 pub record LiesAlong (t : Tiling) (a : Address) (e own : ℕ) : Type 0 where
   pub exists : own < edges_of t (top_kind a)
-  pub along : lies_along (points_of t.order) (supertile_edge (points_of t.order) t.rule (top_kind a) (depth a) own)
+  pub along : lies_along (points_of t.order)
+      (supertile_edge (points_of t.order) t.rule (top_kind a) (depth a) own)
       (edge_of (points_of t.order) t.rule (placed_tile t a) e) ≡ true
 
 -- it lies along none of them

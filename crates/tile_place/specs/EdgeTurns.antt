@@ -14,7 +14,9 @@ use Rattle.tile_place.specs.TurnedVertices.{turned_by}
 -- first place at which they differ
 pub record IsGreatest (o : Order) (z : NumberOf o) (k : ℕ) : Type 0 where
   pub below : k < (points_of o).order
-  pub none_above : (j : ℕ) → j < (points_of o).order → is_gt (slice_cmp int_cmp (coefficients o (turned_by o j z)) (coefficients o (turned_by o k z))) ≡ false
+  pub none_above : (j : ℕ) → j < (points_of o).order
+      → is_gt (slice_cmp int_cmp (coefficients o (turned_by o j z)) (coefficients o (turned_by o k z)))
+      ≡ false
 
 -- places for this number of edges of each kind, and the turns
 pub record EdgeTable : Type 0 where
@@ -25,4 +27,5 @@ pub record EdgeTable : Type 0 where
 pub record AreGreatest (t : Tiling) (x : EdgeTable) : Type 0 where
   pub hold : (k : ℕ) → k < length t.rule.kinds → edge_count t.rule k ≤ x.sides
   pub count : length x.turns ≡ length t.rule.kinds * x.sides
-  pub each : (k e : ℕ) → k < length t.rule.kinds → e < edge_count t.rule k → IsGreatest t.order (edge_vector (points_of t.order) t.rule k e) (get_or x.turns (k * x.sides + e) 0)
+  pub each : (k e : ℕ) → k < length t.rule.kinds → e < edge_count t.rule k
+      → IsGreatest t.order (edge_vector (points_of t.order) t.rule k e) (get_or x.turns (k * x.sides + e) 0)

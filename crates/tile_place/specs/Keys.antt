@@ -7,21 +7,22 @@ use Rattle.tile_place.specs.declared.order_key.OrderKey.{OrderKey}
 -- the four coefficients of the shift, the turn, the kind
 abbrev pub order_numbers : Motion → ℕ → List ℤ
 order_numbers m kind =
-    coefficient m.shift 0 ∷ coefficient m.shift 1 ∷ coefficient m.shift 2 ∷ coefficient m.shift 3 ∷ pos m.turn ∷ pos kind ∷ []
+    coefficient m.shift 0 ∷ coefficient m.shift 1 ∷ coefficient m.shift 2 ∷ coefficient m.shift 3 ∷ pos m.turn
+    ∷ pos kind ∷ []
 
 -- a coefficient of a shift, raised above 0
 abbrev pub raised_shift : ℤ → ℕ
 raised_shift x = nat_abs (x +ℤ pos (2 ^ 24))
 
 -- two coefficients in one number
-abbrev pub pair_of : ℤ → ℤ → ℕ
-pair_of a b = raised_shift a * 2 ^ 26 + raised_shift b
+abbrev pub packed_pair : ℤ → ℤ → ℕ
+packed_pair a b = raised_shift a * 2 ^ 26 + raised_shift b
 
 -- the key of a tile: its first two coefficients, and the others followed by the turn and the kind
 abbrev pub key_of : Motion → ℕ → ℕ → OrderKey
 key_of m kind number = record {
-  high = pair_of (coefficient m.shift 0) (coefficient m.shift 1);
-  low = (pair_of (coefficient m.shift 2) (coefficient m.shift 3) * 2 ^ 4 + m.turn) * 2 ^ 8 + kind;
+  high = packed_pair (coefficient m.shift 0) (coefficient m.shift 1);
+  low = (packed_pair (coefficient m.shift 2) (coefficient m.shift 3) * 2 ^ 4 + m.turn) * 2 ^ 8 + kind;
   number = number;
 }
 

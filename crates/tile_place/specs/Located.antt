@@ -25,7 +25,8 @@ pub record HasSupertile (t : Tiling) (k n : ℕ) : Type 0 where
   pub exists : k < length t.rule.kinds
   pub at_most_64 : n ≤ 64
 
--- the tile has an address of n digits that fits, and its own kind is the address's; its motion is within the limits
+-- the tile has an address of n digits that fits, and its own kind is the address's; its motion is within the
+-- limits
 pub record IsOfSupertile (t : Tiling) (n : ℕ) (x : PlacedTile) : Type 0 where
   pub its_kind : x.kind ≡ x.addr.kind
   pub its_depth : depth (address_of x.addr) ≡ n
@@ -35,15 +36,21 @@ pub record IsOfSupertile (t : Tiling) (n : ℕ) (x : PlacedTile) : Type 0 where
 -- the tiles of the supertile of kind k and depth n, moved by m: the motion of each in the supertile, followed
 -- by m
 abbrev pub moved_tiles : (t : Tiling) → ℕ → ℕ → MotionOf t → List (Placed (NumberOf t.order))
-moved_tiles t k n m = map (λ (x : Placed (NumberOf t.order)). record { address = x.address; motion = followed (points_of t.order) x.motion m }) (supertile (points_of t.order) t.rule k n)
+moved_tiles t k n m =
+    map (λ (x : Placed (NumberOf t.order)). record
+    { address = x.address; motion = followed (points_of t.order) x.motion m })
+    (supertile (points_of t.order) t.rule k n)
 
 -- a tile is one of them, and the point belongs to its polygon
-pub record IsTileHolding (t : Tiling) (k n : ℕ) (m : MotionOf t) (p : NumberOf t.order) (x : Placed (NumberOf t.order)) : Type 0 where
+pub record IsTileHolding (t : Tiling) (k n : ℕ) (m : MotionOf t) (p : NumberOf t.order)
+    (x : Placed (NumberOf t.order)) : Type 0 where
   pub among : IsAmong x (moved_tiles t k n m)
-  pub holds : member (points_of t.order).real (tile_polygon (points_of t.order) t.rule (λ z. z) x) (test_point (points_of t.order).real.ops (plane_point (points_of t.order) p)) ≡ true
+  pub holds : member (points_of t.order).real (tile_polygon (points_of t.order) t.rule (λ z. z) x)
+      (test_point (points_of t.order).real.ops (plane_point (points_of t.order) p)) ≡ true
 
 -- and no other tile of them does
-pub record IsOnlyTileHolding (t : Tiling) (k n : ℕ) (m : MotionOf t) (p : NumberOf t.order) (x : Placed (NumberOf t.order)) : Type 0 where
+pub record IsOnlyTileHolding (t : Tiling) (k n : ℕ) (m : MotionOf t) (p : NumberOf t.order)
+    (x : Placed (NumberOf t.order)) : Type 0 where
   pub here : IsTileHolding t k n m p x
   pub only : (y : Placed (NumberOf t.order)) → IsTileHolding t k n m p y → y ≡ x
 
@@ -52,11 +59,14 @@ abbrev pub HasInside : (t : Tiling) → ℕ → ℕ → MotionOf t → NumberOf 
 HasInside t k n m p = supertile_holds (points_of t.order) t.rule k n m p ≡ true
 
 -- the first refused value of those looked at for the point in that supertile
-abbrev pub first_refused_looked_at : (t : Tiling) → ℕ → ℕ → MotionOf t → NumberOf t.order → Option (NumberOf t.order)
-first_refused_looked_at t k n m p = find (is_refused t.order) (values_looked_at (points_of t.order) t.rule k n m p)
+abbrev pub first_refused_looked_at : (t : Tiling) → ℕ → ℕ → MotionOf t → NumberOf t.order
+    → Option (NumberOf t.order)
+first_refused_looked_at t k n m p =
+    find (is_refused t.order) (values_looked_at (points_of t.order) t.rule k n m p)
 
 -- the cause of each fault: no value on the way is refused and the supertile does not hold the point, or this
 -- is the first that is refused
 abbrev pub IsCauseOf : (t : Tiling) → ℕ → ℕ → MotionOf t → NumberOf t.order → LocateFault → Type 0
 IsCauseOf t k n m p NotInside = (first_refused_looked_at t k n m p ≡ None) × (¬ HasInside t k n m p)
-IsCauseOf t k n m p (CoordLimit v) = (first_refused_looked_at t k n m p ≡ Some (point_in t.order v)) × IsOf t.order v
+IsCauseOf t k n m p (CoordLimit v) = (first_refused_looked_at t k n m p ≡ Some (point_in t.order v))
+    × IsOf t.order v

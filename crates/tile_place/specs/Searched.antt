@@ -17,6 +17,7 @@ placed_in o t = record { address = address_of t.addr; motion = motion_in o t.mot
 
 -- the fault of the values on the way and of the tile found: none is refused and there is no tile, or this is
 -- the first that is refused
-abbrev pub IsSearchFault : (o : Order) → List (NumberOf o) → Option (Placed (NumberOf o)) → LocateFault → Type 0
+abbrev pub IsSearchFault : (o : Order) → List (NumberOf o) → Option (Placed (NumberOf o)) → LocateFault
+    → Type 0
 IsSearchFault o values tile NotInside = (find (is_refused o) values ≡ None) × (tile ≡ None)
 IsSearchFault o values tile (CoordLimit v) = (find (is_refused o) values ≡ Some (point_in o v)) × IsOf o v

@@ -39,4 +39,5 @@ pub record AreTurned (t : Tiling) (x : TurnedTable) : Type 0 where
   pub hold : (k : ℕ) → k < length t.rule.kinds → edge_count t.rule k ≤ x.sides
   pub turns : x.turns ≡ (points_of t.order).order
   pub count : length x.points ≡ length t.rule.kinds * x.turns * x.sides
-  pub each : (k s e : ℕ) → k < length t.rule.kinds → s < x.turns → e < edge_count t.rule k → IsTurned t k s e (get_or x.points (place_of x k s e) origin)
+  pub each : (k s e : ℕ) → k < length t.rule.kinds → s < x.turns → e < edge_count t.rule k
+      → IsTurned t k s e (get_or x.points (place_of x k s e) origin)

@@ -1,7 +1,7 @@
 //! Keys by which tiles are put in order of their places.
 ghost use Rattle.std.specs.Prelude.{◌≡◌, ◌<◌, ◌^◌};
 ghost use Rattle.cyclo_points.specs.Point.{Within, IsWithin};
-ghost use Rattle.tile_place.specs.Keys.{raised_shift, pair_of, key_of, are_level};
+ghost use Rattle.tile_place.specs.Keys.{raised_shift, packed_pair, key_of, are_level};
 
 use cyclo_points::motion::Motion;
 
@@ -49,7 +49,7 @@ impl OrderKey {
 fn pair(a: i64, b: i64) -> u64
     requires a_within { Within (2 ^ 24) a }
     requires b_within { Within (2 ^ 24) b }
-    ensures value { result ≡ pair_of a b }
+    ensures value { result ≡ packed_pair a b }
     ensures below { result < 2 ^ 52 }
 {
     raised(a) * 67_108_864 + raised(b)

@@ -2,7 +2,7 @@
 use Rattle.std.proofs.Common.{◌≡◌, ℕ, ◌-◌, ◌<◌, Bool, true, false, cond, List, [], ◌∷◌, length, drop, get_or, nat_eq, Ok, Err, refl, ap, ◌∙◌, arith}
 use Rattle.std.proofs.lemmas.Bool.{eqb-true}
 use Rattle.tile_shape.specs.Decimal.{is_figure}
-use Rattle.tile_shape.specs.Parse.{after, digit_at, number_at, number_from, figure_taken}
+use Rattle.tile_shape.specs.Parse.{after_mark, digit_at, number_at, number_from, figure_taken}
 use Rattle.tile_shape.specs.Text.{comma, slash}
 
 zero_is : (c : ℕ) (rest : List ℕ) → nat_eq c 48 ≡ true → ◌≡◌ {A = ℕ × List ℕ} (0, rest) (c - 48, rest)
@@ -31,8 +31,8 @@ before_comma c bs f =
     ap (λ b. cond b (Ok (number_from c (comma ∷ bs))) (Err (length (c ∷ comma ∷ bs)))) f
     ∙ ap (λ n. Ok n) (by_zero c (comma ∷ bs) (nat_eq c 48) refl)
 
-behind_slash : (bs : List ℕ) → after slash (slash ∷ bs) ≡ Ok bs
-unfolding after
+behind_slash : (bs : List ℕ) → after_mark slash (slash ∷ bs) ≡ Ok bs
+unfolding after_mark
 behind_slash bs = refl
 
 small_read : (c p : ℕ) (bs : List ℕ) → is_figure c ≡ true → is_figure p ≡ true
@@ -53,6 +53,6 @@ small_read_at (c ∷ a ∷ p ∷ b ∷ bs) h f s g m =
     ∙ ap (λ y. digit_at (c ∷ slash ∷ p ∷ y ∷ bs)) m
     ∙ small_read c p bs f g
 
-pub behind_comma : (bs : List ℕ) → after comma (comma ∷ bs) ≡ Ok bs
-unfolding after
+pub behind_comma : (bs : List ℕ) → after_mark comma (comma ∷ bs) ≡ Ok bs
+unfolding after_mark
 behind_comma bs = refl

@@ -16,11 +16,12 @@ unless_misfit a (Some fault) = Err fault
 -- of a text of this size, by what reading it gives
 abbrev pub address_read : List (List ℕ) → ℕ → Result Address ℕ → Result Address AddressFault
 address_read children size (Err left) = Err (BadText (size - left))
-address_read children size (Ok a) = if nat_le (depth a) 64 then unless_misfit a (first_misfit children a) else Err TooDeep
+address_read children size (Ok a) =
+    if nat_le (depth a) 64 then unless_misfit a (first_misfit children a) else Err TooDeep
 
 -- the address of a text, or its first fault
-abbrev pub address_in : List (List ℕ) → List ℕ → Result Address AddressFault
-address_in children text = address_read children (length text) (address_at text)
+abbrev pub address_of_text : List (List ℕ) → List ℕ → Result Address AddressFault
+address_of_text children text = address_read children (length text) (address_at text)
 
 -- an answer of the program is this one
 abbrev pub AnswersAddress : Result program.Address AddressFault → Result Address AddressFault → Type 0

@@ -14,4 +14,6 @@ negated (suc n) = Some (neg_ℤ (pos (suc n)))
 -- the signed number of a text, up to a limit in absolute value: a number, or `-` and a number other than 0
 abbrev pub signed_up_to : ℕ → List ℕ → Option ℤ
 signed_up_to most [] = None
-signed_up_to most (byte ∷ bytes) = if byte == minus_sign then option_and_then negated (number_up_to most bytes) else option_map pos (number_up_to most (byte ∷ bytes))
+signed_up_to most (byte ∷ bytes) =
+    if byte == minus_sign then option_and_then negated (number_up_to most bytes) else option_map pos
+    (number_up_to most (byte ∷ bytes))

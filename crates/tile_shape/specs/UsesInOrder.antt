@@ -6,7 +6,9 @@ use Rattle.theory_addresses.specs.Address.{Step}
 -- the uses of a kind among the children of one parent, of which these are those from number n on
 abbrev pub uses_in_row : ℕ → ℕ → ℕ → List ℕ → List Step
 uses_in_row kind parent n [] = []
-uses_in_row kind parent n (c ∷ cs) = cond (nat_eq c kind) (record { child = n; parent = parent } ∷ uses_in_row kind parent (n + 1) cs) (uses_in_row kind parent (n + 1) cs)
+uses_in_row kind parent n (c ∷ cs) =
+    cond (nat_eq c kind) (record { child = n; parent = parent } ∷ uses_in_row kind parent (n + 1) cs)
+    (uses_in_row kind parent (n + 1) cs)
 
 -- the uses of a kind among the children of all parents, of which these are the rows of those from number n on
 abbrev pub uses_in_rows : ℕ → ℕ → List (List ℕ) → List Step

@@ -8,7 +8,7 @@ use Rattle.layer_api.specs.declared.format.Format.{Format}
 use Rattle.call_notes.specs.declared.status.Status.{Status}
 use Rattle.call_notes.specs.declared.status.Status.TheVariants.{Done, BadWords, NoLayer, ReadFault, RuleTooLong, RuleRefused, BadAddress, NoEdge, NoVertex, Outside, DepthLimit, CoordLimit, TooManyTiles, StarTooBig, BadScript, BadListing, WriteFault, NoMemory}
 use Rattle.tile_app.specs.Asked.{IsAsked, IsFileIn}
-use Rattle.tile_app.specs.Call.{Call, IsRight, has_file_in}
+use Rattle.tile_app.specs.Call.{Call, AreRight, has_file_in}
 use Rattle.tile_app.specs.Answer.{IsLimitOf}
 use Rattle.tile_app.specs.Causes.{Causes, IsNoLimit}
 use Rattle.call_notes.specs.Notes.{note_of, IsNoted}
@@ -24,7 +24,7 @@ check_asked = refl
 abbrev pub check_call : List ℕ → Call
 check_call file = record { words = check_words; handed = []; file = file }
 
-pub is_right : (file : List ℕ) → IsRight (check_call file) (Check File)
+pub is_right : (file : List ℕ) → AreRight (check_call file) (Check File)
 is_right file = record { asked = check_asked; layers = refl }
 
 pub is_asked : (file : List ℕ) → IsAsked check_words [] (Some file) (check_call file)

@@ -2,7 +2,7 @@
 use Rattle.std.proofs.Common.{◌≡◌, ℕ, List, Ok, Err, IsOk, refl, sym, ap, ◌∙◌, subst}
 use Rattle.std.specs.Prelude.{Result}
 use Rattle.theory_addresses.specs.Address.{Address}
-use Rattle.tile_shape.specs.AddressIn.{address_in as address_of_text}
+use Rattle.tile_shape.specs.AddressIn.{address_of_text as address_of_text}
 use Rattle.tile_shape.specs.declared.address_fault.AddressFault.{AddressFault}
 use Rattle.c_values.specs.Statuses.{bad_address}
 

@@ -26,7 +26,7 @@ use Rattle.c_values.specs.declared.plain_tile.PlainTile.{PlainTile}
 use Rattle.tile_shape.specs.Views.{step_of}
 use Rattle.c_values.specs.Statuses.{ok, no_memory, bad_listing}
 use Rattle.c_values.specs.Tiles.{motion_of}
-use Rattle.tiling_c.specs.Arrays.{tile_at, address_at}
+use Rattle.tiling_c.specs.Arrays.{plain_tile_at, plain_address_at}
 use Rattle.tiling_c.specs.Verifying.{entry_given, entries_given, listing_given, IsEntry, AreEntries, AreTilesOf, status_told, fault_of}
 
 none : {A : Type 0} (xs : List A) → take 0 xs ≡ []
@@ -41,18 +41,18 @@ same_entry d e (x ∷ xs) (suc i) h = same_entry d e xs i (omega (arith, h))
 
 module _ (Q : PlainTile → PlainAddress → Type 0) (tiles : List PlainTile) (addrs : List PlainAddress) (i : ℕ) (d : PlainTile) (e : PlainAddress)
     (in_tiles : i < length tiles) (in_addrs : i < length addrs) where
-  pub there : Q (get_or tiles i d) (get_or addrs i e) → Q (tile_at tiles i) (address_at addrs i)
-  there q = subst (λ x. Q x (address_at addrs i)) (same_entry d _ tiles i in_tiles)
+  pub there : Q (get_or tiles i d) (get_or addrs i e) → Q (plain_tile_at tiles i) (plain_address_at addrs i)
+  there q = subst (λ x. Q x (plain_address_at addrs i)) (same_entry d _ tiles i in_tiles)
       (subst (λ y. Q (get_or tiles i d) y) (same_entry e _ addrs i in_addrs) q)
 
-  pub here : Q (tile_at tiles i) (address_at addrs i) → Q (get_or tiles i d) (get_or addrs i e)
+  pub here : Q (plain_tile_at tiles i) (plain_address_at addrs i) → Q (get_or tiles i d) (get_or addrs i e)
   here q = subst (λ x. Q x (get_or addrs i e)) (same_entry _ d tiles i in_tiles)
-      (subst (λ y. Q (tile_at tiles i) y) (same_entry _ e addrs i in_addrs) q)
+      (subst (λ y. Q (plain_tile_at tiles i) y) (same_entry _ e addrs i in_addrs) q)
 
 -- one entry more
 entries_more : (i : ℕ) (tiles : List PlainTile) (addrs : List PlainAddress) → i < length tiles → i < length addrs
     → entries_given (take (suc i) tiles) (take (suc i) addrs)
-    ≡ entries_given (take i tiles) (take i addrs) ++ entry_given (tile_at tiles i) (address_at addrs i) ∷ []
+    ≡ entries_given (take i tiles) (take i addrs) ++ entry_given (plain_tile_at tiles i) (plain_address_at addrs i) ∷ []
 entries_more i [] addrs h k = absurd (omega arith)
 entries_more i (t ∷ ts) [] h k = absurd (omega arith)
 entries_more zero (t ∷ ts) (a ∷ bs) h k =
@@ -61,12 +61,12 @@ entries_more (suc i) (t ∷ ts) (a ∷ bs) h k = ap (λ es. entry_given t a ∷ 
 
 pub listing_more : (i : ℕ) (tiles : List PlainTile) (addrs : List PlainAddress) (text line : List ℕ)
     → i < length tiles → i < length addrs → text ≡ listing_given (take i tiles) (take i addrs)
-    → line ≡ entry_text (entry_given (tile_at tiles i) (address_at addrs i)) ++ newline ∷ []
+    → line ≡ entry_text (entry_given (plain_tile_at tiles i) (plain_address_at addrs i)) ++ newline ∷ []
     → text ++ line ≡ listing_given (take (i + 1) tiles) (take (i + 1) addrs)
 listing_more i tiles addrs text line h k so_far its_line =
     ap₂ (λ (x y : List ℕ). x ++ y) so_far (its_line ∙ sym (append-nil _))
     ∙ sym (flat_map-append (λ (e : Entry). entry_text e ++ newline ∷ []) (entries_given (take i tiles) (take i addrs))
-    (entry_given (tile_at tiles i) (address_at addrs i) ∷ []))
+    (entry_given (plain_tile_at tiles i) (plain_address_at addrs i) ∷ []))
     ∙ ap entries_text (sym (entries_more i tiles addrs h k))
     ∙ ap (λ n. listing_given (take n tiles) (take n addrs)) (let e : suc i ≡ i + 1 = omega arith in e)
 
@@ -105,7 +105,7 @@ one_more P i before last j below = elim (cases_lt j i) [
 
 -- all entries can be listed
 pub all_listed : (kinds : List (List ℕ)) (tiles : List PlainTile) (addrs : List PlainAddress) → length addrs ≡ length tiles
-    → ((i : ℕ) → i < length tiles → CanBeListed kinds (entry_given (tile_at tiles i) (address_at addrs i)))
+    → ((i : ℕ) → i < length tiles → CanBeListed kinds (entry_given (plain_tile_at tiles i) (plain_address_at addrs i)))
     → AllByRecursion (CanBeListed kinds) (entries_given tiles addrs)
 all_listed kinds [] addrs same each = tt
 all_listed kinds (t ∷ ts) [] same each = tt

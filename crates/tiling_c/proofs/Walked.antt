@@ -13,21 +13,22 @@ use Rattle.c_values.specs.declared.plain_address.PlainAddress.{PlainAddress}
 use Rattle.c_values.specs.declared.plain_tile.PlainTile.{PlainTile}
 use Rattle.c_values.specs.Addresses.{address_in}
 use Rattle.c_values.specs.Tiles.{refused_as}
-use Rattle.tiling_c.specs.Arrays.{no_address, tile_at, address_at}
+use Rattle.tiling_c.specs.Arrays.{no_address, plain_tile_at, plain_address_at}
 use Rattle.tiling_c.specs.Walks.{ShowsStanding, IsReached}
 
 -- what was put there before stays
-pub address_before : (addrs : List PlainAddress) (i j : ℕ) (addr : PlainAddress) → j < i → address_at (slice_set addrs i addr) j ≡ address_at addrs j
+pub address_before : (addrs : List PlainAddress) (i j : ℕ) (addr : PlainAddress) → j < i
+    → plain_address_at (slice_set addrs i addr) j ≡ plain_address_at addrs j
 address_before addrs i j addr below = get_or-set_other addrs i j addr no_address (λ e. absurd (omega (arith, below, e)))
 
-pub tile_before : (tiles : List PlainTile) (i j : ℕ) (tile : PlainTile) → j < i → tile_at (slice_set tiles i tile) j ≡ tile_at tiles j
+pub tile_before : (tiles : List PlainTile) (i j : ℕ) (tile : PlainTile) → j < i → plain_tile_at (slice_set tiles i tile) j ≡ plain_tile_at tiles j
 tile_before tiles i j tile below = get_or-set_other tiles i j tile (refused_as 0) (λ e. absurd (omega (arith, below, e)))
 
 -- and what is put is there
-pub address_there : (addrs : List PlainAddress) (i : ℕ) (addr : PlainAddress) → i < length addrs → address_at (slice_set addrs i addr) i ≡ addr
+pub address_there : (addrs : List PlainAddress) (i : ℕ) (addr : PlainAddress) → i < length addrs → plain_address_at (slice_set addrs i addr) i ≡ addr
 address_there addrs i addr below = get_or-set_same addrs i addr no_address below
 
-pub tile_there : (tiles : List PlainTile) (i : ℕ) (tile : PlainTile) → i < length tiles → tile_at (slice_set tiles i tile) i ≡ tile
+pub tile_there : (tiles : List PlainTile) (i : ℕ) (tile : PlainTile) → i < length tiles → plain_tile_at (slice_set tiles i tile) i ≡ tile
 tile_there tiles i tile below = get_or-set_same tiles i tile (refused_as 0) below
 
 module _ (t : Tiling) (f : FrameValue) (path : List ℕ) (tiles : List PlainTile) (addrs : List PlainAddress)
@@ -42,34 +43,36 @@ module _ (t : Tiling) (f : FrameValue) (path : List ℕ) (tiles : List PlainTile
   -- a tile before is still walked to
   kept : (j : ℕ) → j < i → IsReached t f path tiles addrs j → IsReached t f path tiles' addrs' j
   kept j below h =
-      let here : address_at addrs' j ≡ address_at addrs j = address_before addrs (i + 1) j addr (omega (arith, below)) in
-      let next : address_at addrs' (j + 1) ≡ address_at addrs (j + 1) = address_before addrs (i + 1) (j + 1) addr (omega (arith, below)) in
-      let shown : tile_at tiles' (j + 1) ≡ tile_at tiles (j + 1) = tile_before tiles (i + 1) (j + 1) tile (omega (arith, below)) in
+      let here : plain_address_at addrs' j ≡ plain_address_at addrs j = address_before addrs (i + 1) j addr (omega (arith, below)) in
+      let next : plain_address_at addrs' (j + 1)
+      ≡ plain_address_at addrs (j + 1) = address_before addrs (i + 1) (j + 1) addr (omega (arith, below)) in
+      let shown : plain_tile_at tiles' (j + 1) ≡ plain_tile_at tiles (j + 1) = tile_before tiles (i + 1) (j + 1) tile (omega (arith, below)) in
       record {
         back = h.back;
-        across = subst (λ a. IsOnlyAcross t (address_in a) (get_or path j 0) (address_in (address_at addrs' (j + 1))) h.back) (sym here)
-            (subst (λ a. IsOnlyAcross t (address_in (address_at addrs j)) (get_or path j 0) (address_in a) h.back) (sym next) h.across);
-        stands = subst (λ a. ShowsStanding t f h.back (tile_at tiles' (j + 1)) a) (sym next)
-            (subst (λ x. ShowsStanding t f h.back x (address_at addrs (j + 1))) (sym shown) h.stands);
+        across = subst (λ a. IsOnlyAcross t (address_in a) (get_or path j 0) (address_in (plain_address_at addrs' (j + 1))) h.back) (sym here)
+            (subst (λ a. IsOnlyAcross t (address_in (plain_address_at addrs j)) (get_or path j 0) (address_in a) h.back) (sym next) h.across);
+        stands = subst (λ a. ShowsStanding t f h.back (plain_tile_at tiles' (j + 1)) a) (sym next)
+            (subst (λ x. ShowsStanding t f h.back x (plain_address_at addrs (j + 1))) (sym shown) h.stands);
       }
 
   -- and the tile that is put is walked to
-  put : (back : ℕ) → IsOnlyAcross t (address_in (address_at addrs i)) (get_or path i 0) (address_in addr) back → ShowsStanding t f back tile addr
+  put : (back : ℕ) → IsOnlyAcross t (address_in (plain_address_at addrs i)) (get_or path i 0) (address_in addr) back
+      → ShowsStanding t f back tile addr
       → IsReached t f path tiles' addrs' i
   put back across stands =
-      let here : address_at addrs' i ≡ address_at addrs i = address_before addrs (i + 1) i addr (omega arith) in
-      let next : address_at addrs' (i + 1) ≡ addr = address_there addrs (i + 1) addr in_addrs in
-      let shown : tile_at tiles' (i + 1) ≡ tile = tile_there tiles (i + 1) tile in_tiles in
+      let here : plain_address_at addrs' i ≡ plain_address_at addrs i = address_before addrs (i + 1) i addr (omega arith) in
+      let next : plain_address_at addrs' (i + 1) ≡ addr = address_there addrs (i + 1) addr in_addrs in
+      let shown : plain_tile_at tiles' (i + 1) ≡ tile = tile_there tiles (i + 1) tile in_tiles in
       record {
         back = back;
-        across = subst (λ a. IsOnlyAcross t (address_in a) (get_or path i 0) (address_in (address_at addrs' (i + 1))) back) (sym here)
-            (subst (λ a. IsOnlyAcross t (address_in (address_at addrs i)) (get_or path i 0) (address_in a) back) (sym next) across);
-        stands = subst (λ a. ShowsStanding t f back (tile_at tiles' (i + 1)) a) (sym next)
+        across = subst (λ a. IsOnlyAcross t (address_in a) (get_or path i 0) (address_in (plain_address_at addrs' (i + 1))) back) (sym here)
+            (subst (λ a. IsOnlyAcross t (address_in (plain_address_at addrs i)) (get_or path i 0) (address_in a) back) (sym next) across);
+        stands = subst (λ a. ShowsStanding t f back (plain_tile_at tiles' (i + 1)) a) (sym next)
             (subst (λ x. ShowsStanding t f back x addr) (sym shown) stands);
       }
 
   pub one_walked : ((j : ℕ) → j < i → IsReached t f path tiles addrs j) → (back : ℕ)
-      → IsOnlyAcross t (address_in (address_at addrs i)) (get_or path i 0) (address_in addr) back → ShowsStanding t f back tile addr
+      → IsOnlyAcross t (address_in (plain_address_at addrs i)) (get_or path i 0) (address_in addr) back → ShowsStanding t f back tile addr
       → (j : ℕ) → j < i + 1 → IsReached t f path tiles' addrs' j
   one_walked before back across stands j below = elim (cases_lt j i) [
     | inl h ↦ kept j h (before j h)

@@ -18,11 +18,11 @@ abbrev pub no_address : PlainAddress
 no_address = record { kind = 0; depth = 0; digits = [] }
 
 -- the tile at index i of an array, and the address
-abbrev pub tile_at : List PlainTile → ℕ → PlainTile
-tile_at tiles i = get_or tiles i (refused_as 0)
+abbrev pub plain_tile_at : List PlainTile → ℕ → PlainTile
+plain_tile_at tiles i = get_or tiles i (refused_as 0)
 
-abbrev pub address_at : List PlainAddress → ℕ → PlainAddress
-address_at addrs i = get_or addrs i no_address
+abbrev pub plain_address_at : List PlainAddress → ℕ → PlainAddress
+plain_address_at addrs i = get_or addrs i no_address
 
 -- the numbers show where the tile of an address lies in its supertile, or their status shows why not
 pub record ShowsPlace (t : Tiling) (addr : PlainAddress) (tile : PlainTile) : Type 0 where
@@ -42,7 +42,8 @@ crossing_at crossings i = get_or crossings i (record { status = 0; back = 0; par
 
 -- The address has become that of the only tile across the edge, and `back` is its edge that leads back; or
 -- the address is unchanged, and the status shows why.
-pub record ShowsCrossing (t : Tiling) (old : PlainAddress) (edge : ℕ) (new : PlainAddress) (crossing : PlainCrossing) : Type 0 where
+pub record ShowsCrossing (t : Tiling) (old : PlainAddress) (edge : ℕ) (new : PlainAddress)
+    (crossing : PlainCrossing) : Type 0 where
   pub across : crossing.status ≡ ok → IsOnlyAcross t (address_in old) edge (address_in new) crossing.back
   pub leads_back : crossing.status ≡ ok → IsOnlyAcross t (address_in new) crossing.back (address_in old) edge
   pub names : crossing.status ≡ ok → NamesTile t new
@@ -51,10 +52,12 @@ pub record ShowsCrossing (t : Tiling) (old : PlainAddress) (edge : ℕ) (new : P
   pub names_none : (crossing.status ≡ bad_address) ↔ (¬ NamesTile t old)
   pub lacks_edge : (crossing.status ≡ no_edge) ↔ (NamesTile t old × (edges_of t old.kind ≤ edge))
   pub unchanged : ¬ crossing.status ≡ ok → new ≡ old
-  pub statuses : (crossing.status ≡ ok) ⊎ (crossing.status ≡ bad_address) ⊎ (crossing.status ≡ outside) ⊎ (crossing.status ≡ no_edge)
+  pub statuses : (crossing.status ≡ ok) ⊎ (crossing.status ≡ bad_address) ⊎ (crossing.status ≡ outside)
+      ⊎ (crossing.status ≡ no_edge)
 
 -- in an array: the same, with 0 for each number that the status leaves without a meaning
-pub record ShowsCrossingInArray (t : Tiling) (old : PlainAddress) (edge : ℕ) (new : PlainAddress) (crossing : PlainCrossing) : Type 0 where
+pub record ShowsCrossingInArray (t : Tiling) (old : PlainAddress) (edge : ℕ) (new : PlainAddress)
+    (crossing : PlainCrossing) : Type 0 where
   pub crossed : ShowsCrossing t old edge new crossing
   pub no_back : ¬ crossing.status ≡ ok → ¬ crossing.status ≡ outside → crossing.back ≡ 0
   pub no_part : ¬ crossing.status ≡ outside → crossing.part ≡ 0

@@ -39,14 +39,16 @@ call_of arguments input = record {
 abbrev pub call_in : List ℕ → List ℕ → Call
 call_in text input = call_of (arguments_in text) input
 
--- the command prints a text for the call, and the text is in an array, as far as there is room; this is its length
+-- the command prints a text for the call, and the text is in an array, as far as there is room; this is its
+-- length
 pub record PrintsText (c : Call) (old new : List ℕ) (bytes : ℕ) : Type 0 where
   pub text : List ℕ
   pub printed : Prints c text
   pub held : HoldsText text old new
   pub whole : bytes ≡ length text
 
--- the code is that of a status, and the status's line is in an array, as far as there is room; this is its length
+-- the code is that of a status, and the status's line is in an array, as far as there is room; this is its
+-- length
 pub record TellsStatus (status : Status) (code : ℕ) (old new : List ℕ) (bytes : ℕ) : Type 0 where
   pub is_code : code ≡ code_of status
   pub line : HoldsText (note_of status) old new
@@ -87,7 +89,8 @@ pub record EndsWith (c : Call) (text line : List ℕ) (code : ℕ) : Type 0 wher
   pub answer : IsEnding c text line status
 
 -- it ends so, and what is printed, or the line of a refusal, is in its array
-pub record EndsTold (c : Call) (code : ℕ) (out new_out : List ℕ) (out_bytes : ℕ) (note new_note : List ℕ) (note_bytes : ℕ) : Type 0 where
+pub record EndsTold (c : Call) (code : ℕ) (out new_out : List ℕ) (out_bytes : ℕ) (note new_note : List ℕ)
+    (note_bytes : ℕ) : Type 0 where
   pub status : Status
   pub text : List ℕ
   pub answer : IsEnding c text (note_of status) status

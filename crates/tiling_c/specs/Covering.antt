@@ -7,7 +7,7 @@ use Rattle.tile_place.specs.declared.placed_tile.PlacedTile.{PlacedTile}
 use Rattle.tile_app.specs.TilesOfWindow.{TilesOfWindow}
 use Rattle.window_cover.specs.declared.cover_fault.CoverFault.{CoverFault}
 use Rattle.window_cover.specs.declared.cover_fault.CoverFault.TheVariants.{DepthLimit, CoordLimit, TooManyTiles, NoMemory}
-use Rattle.window_cover.specs.Causes.{HasCause}
+use Rattle.window_cover.specs.Causes.{HasCoverCause}
 use Rattle.c_values.specs.declared.plain_address.PlainAddress.{PlainAddress}
 use Rattle.c_values.specs.declared.plain_tile.PlainTile.{PlainTile}
 use Rattle.c_values.specs.declared.plain_window.PlainWindow.{PlainWindow}
@@ -20,20 +20,24 @@ use Rattle.tiling_c.specs.Shown.{tile_shown, address_shown}
 abbrev pub held : List PlacedTile → ℕ → ℕ
 held all room = min (length all) room
 
--- the tiles are at the front of an array, as many as it has room for, and the entries after them are unchanged
+-- the tiles are at the front of an array, as many as it has room for, and the entries after them are
+-- unchanged
 pub record HoldsTiles (all : List PlacedTile) (old new : List PlainTile) : Type 0 where
   pub front : take (held all (length old)) new ≡ map tile_shown (take (held all (length old)) all)
   pub behind : drop (held all (length old)) new ≡ drop (held all (length old)) old
 
 -- the same holds for their addresses in another array
 pub record HoldsAddresses (all : List PlacedTile) (old new : List PlainAddress) : Type 0 where
-  pub front : map address_in (take (held all (length old)) new) ≡ map address_shown (take (held all (length old)) all)
+  pub front : map address_in (take (held all (length old)) new)
+      ≡ map address_shown (take (held all (length old)) all)
   pub no_deeper : All (λ (p : PlainAddress). p.depth ≤ 64) (take (held all (length old)) new)
   pub behind : drop (held all (length old)) new ≡ drop (held all (length old)) old
 
--- These are exactly the tiles of a frame, grown from `start`, that meet the window. Each comes exactly once, in order, and they cover the window. `count` is their
--- number. They and their addresses are in the arrays, as far as there is room.
-pub record IsCover (t : Tiling) (start : FrameValue) (window : Window) (tiles new_tiles : List PlainTile) (addrs new_addrs : List PlainAddress) (count : ℕ) : Type 0 where
+-- These are exactly the tiles of a frame, grown from `start`, that meet the window. Each comes exactly once,
+-- in order, and they cover the window. `count` is their number. They and their addresses are in the arrays,
+-- as far as there is room.
+pub record IsCover (t : Tiling) (start : FrameValue) (window : Window) (tiles new_tiles : List PlainTile)
+    (addrs new_addrs : List PlainAddress) (count : ℕ) : Type 0 where
   pub frame : FrameValue
   pub all : List PlacedTile
   pub exactly : TilesOfWindow t start window frame all
@@ -48,15 +52,17 @@ status_of (CoordLimit value) = coord_limit
 status_of TooManyTiles = too_many_tiles
 status_of NoMemory = no_memory
 
--- the search for the tiles of the window ended for a cause, in the frame as it had grown then, and this is its status
+-- the search for the tiles of the window ended for a cause, in the frame as it had grown then, and this is
+-- its status
 pub record EndsCover (t : Tiling) (start : FrameValue) (window : Window) (status : ℕ) : Type 0 where
   pub frame : FrameValue
   pub grown : GrowsTo t start frame
   pub fault : CoverFault
-  pub cause : HasCause t start frame window fault
+  pub cause : HasCoverCause t start frame window fault
   pub is_status : status ≡ status_of fault
 
 -- the numbers give a window, and there is room for no addresses, or for as many addresses as tiles
-pub record AsksForWindow (window : PlainWindow) (tiles : List PlainTile) (addrs : List PlainAddress) : Type 0 where
+pub record AsksForWindow (window : PlainWindow) (tiles : List PlainTile)
+    (addrs : List PlainAddress) : Type 0 where
   pub window_given : GivesWindow window
   pub lengths : (length addrs ≡ 0) ⊎ (length addrs ≡ length tiles)

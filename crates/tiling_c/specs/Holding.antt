@@ -13,12 +13,14 @@ use Rattle.c_values.specs.declared.plain_tile.PlainTile.{PlainTile}
 use Rattle.c_values.specs.Addresses.{ShowsAddress}
 use Rattle.tiling_c.specs.Shown.{tile_shown}
 
--- The frame has grown from `start` to the least depth at which it holds the point. Exactly one of its tiles there holds the point. These are its numbers and its
--- address.
-pub record ShowsHolder (t : Tiling) (start : FrameValue) (p : NumberOf t.order) (numbers : PlainTile) (addr : PlainAddress) : Type 0 where
+-- The frame has grown from `start` to the least depth at which it holds the point. Exactly one of its tiles
+-- there holds the point. These are its numbers and its address.
+pub record ShowsHolder (t : Tiling) (start : FrameValue) (p : NumberOf t.order) (numbers : PlainTile)
+    (addr : PlainAddress) : Type 0 where
   pub frame : FrameValue
   pub grown : GrowsTo t start frame
-  pub least : (n : ℕ) → length start.digits ≤ n → n < length frame.digits → ¬ FrameHolds t (at_depth t n start) p
+  pub least : (n : ℕ) → length start.digits ≤ n → n < length frame.digits
+      → ¬ FrameHolds t (at_depth t n start) p
   pub tile : PlacedTile
   pub only : IsOnlyHolder t frame p (placed_in t.order tile)
   pub stands : Stands t frame tile

@@ -16,7 +16,7 @@ use Rattle.c_values.specs.Statuses.{ok, outside}
 use Rattle.c_values.specs.Tiles.{motion_of}
 use Rattle.c_values.specs.Windows.{point_given, IsNearby}
 use Rattle.tiling_c.specs.Shown.{tile_shown}
-use Rattle.tiling_c.specs.Shapes.{IsTile}
+use Rattle.tiling_c.specs.Shapes.{IsPlainTile}
 
 -- the motion and the point that the numbers give in the order of a tiling
 abbrev pub motion_given : (t : Tiling) → PlainTile → MotionOf t
@@ -27,20 +27,24 @@ number_given t p = point_in t.order (point_given t.order p.c)
 
 -- the numbers give a supertile of at most 64 levels, at its place, and a point
 pub record AsksToLocate (t : Tiling) (top : PlainTile) (depth : ℕ) (p : PlainPoint) : Type 0 where
-  pub tile : IsTile t top
+  pub tile : IsPlainTile t top
   pub no_deeper : depth ≤ 64
   pub near : IsNearby p.c
 
--- exactly one tile of the supertile of this kind and depth, moved by m, holds the point; these are its numbers, and its address there
-pub record ShowsLocated (t : Tiling) (kind depth : ℕ) (m : MotionOf t) (p : NumberOf t.order) (numbers : PlainTile) (addr : PlainAddress) : Type 0 where
+-- exactly one tile of the supertile of this kind and depth, moved by m, holds the point; these are its
+-- numbers, and its address there
+pub record ShowsLocated (t : Tiling) (kind depth : ℕ) (m : MotionOf t) (p : NumberOf t.order)
+    (numbers : PlainTile) (addr : PlainAddress) : Type 0 where
   pub tile : PlacedTile
   pub only : IsOnlyTileHolding t kind depth m p (placed_in t.order tile)
   pub of_supertile : IsOfSupertile t depth tile
   pub its_numbers : numbers ≡ tile_shown tile
   pub its_address : ShowsAddress addr (address_of tile.addr)
 
--- Unless a value that is computed on the way is refused, the status is `ok` exactly if the supertile holds the point, and `outside` exactly if it doesn't. Both
--- statuses come only if no such value is refused.
-pub record IsLocatedBy (t : Tiling) (kind depth : ℕ) (m : MotionOf t) (p : NumberOf t.order) (status : ℕ) : Type 0 where
+-- Unless a value that is computed on the way is refused, the status is `ok` exactly if the supertile holds
+-- the point, and `outside` exactly if it doesn't. Both statuses come only if no such value is refused.
+pub record IsLocatedBy (t : Tiling) (kind depth : ℕ) (m : MotionOf t) (p : NumberOf t.order)
+    (status : ℕ) : Type 0 where
   pub found : (status ≡ ok) ↔ ((first_refused_looked_at t kind depth m p ≡ None) × HasInside t kind depth m p)
-  pub not_inside : (status ≡ outside) ↔ ((first_refused_looked_at t kind depth m p ≡ None) × (¬ HasInside t kind depth m p))
+  pub not_inside : (status ≡ outside)
+      ↔ ((first_refused_looked_at t kind depth m p ≡ None) × (¬ HasInside t kind depth m p))

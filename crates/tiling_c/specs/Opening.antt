@@ -9,9 +9,11 @@ use Rattle.tile_app.specs.RuleFiles.{tiling_in_file}
 use Rattle.c_values.specs.declared.machine_slot.MachineSlot.{MachineSlot}
 use Rattle.tiling_c.specs.Machines.{HasMachine}
 
--- a text is at the front of an array of bytes, as far as there is room, and the bytes after it are as they were
+-- a text is at the front of an array of bytes, as far as there is room, and the bytes after it are as they
+-- were
 abbrev pub HoldsText : List ℕ → List ℕ → List ℕ → Type 0
-HoldsText text old new = new ≡ take (min (length text) (length old)) text ++ drop (min (length text) (length old)) old
+HoldsText text old new = new
+    ≡ take (min (length text) (length old)) text ++ drop (min (length text) (length old)) old
 
 -- the file is not too long, it stands for an accepted rule, and the slot has a machine of that rule
 pub record OpensFile (file : List ℕ) (slot : MachineSlot) : Type 0 where

@@ -10,8 +10,8 @@ use Rattle.c_values.specs.declared.plain_relation.PlainRelation.{PlainRelation}
 abbrev pub no_back : ℕ
 no_back = 255
 
--- the number shows which edge of b lies on edge e of a: across edge e of a is this edge of b and no other, and across it is edge e of a; or it is 255, and no
--- edge of b lies there
+-- the number shows which edge of b lies on edge e of a: across edge e of a is this edge of b and no other,
+-- and across it is edge e of a; or it is 255, and no edge of b lies there
 pub record ShowsBack (t : Tiling) (a : Address) (e : ℕ) (b : Address) (back : ℕ) : Type 0 where
   pub exactly : (f : ℕ) → IsOnlyAcross t a e b f ↔ ((f ≡ back) × (back < no_back))
   pub leads_back : back < no_back → IsOnlyAcross t b back a e
@@ -26,8 +26,8 @@ pub record HasBack (backs : List ℕ) : Type 0 where
   pub edge : ℕ
   pub back : get_or backs edge no_back < no_back
 
--- The number is 0 for two tiles without a common supertile. With one, it is 1 if both are the same tile; for two tiles it is 3 if they share an edge, and 2 if
--- they don't.
+-- The number is 0 for two tiles without a common supertile. With one, it is 1 if both are the same tile; for
+-- two tiles it is 3 if they share an edge, and 2 if they don't.
 pub record ShowsHow (a b : Address) (backs : List ℕ) (relation : ℕ) : Type 0 where
   pub strangers : relation ≡ 0 → ¬ HaveCommon a b
   pub same : relation ≡ 1 → HaveCommon a b × (a ≡ b)

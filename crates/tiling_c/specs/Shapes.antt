@@ -9,6 +9,6 @@ abbrev pub HasKind : Tiling → ℕ → Type 0
 HasKind t kind = kind < length t.rule.kinds
 
 -- its kind is one of the tiling, and its turn and shift give a motion
-pub record IsTile (t : Tiling) (p : PlainTile) : Type 0 where
+pub record IsPlainTile (t : Tiling) (p : PlainTile) : Type 0 where
   pub kind_exists : HasKind t p.kind
   pub motion_given : GivesMotion t.order p

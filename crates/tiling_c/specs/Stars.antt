@@ -8,9 +8,9 @@ use Rattle.rule_model.specs.Tiling.{Tiling}
 use Rattle.star_walk.specs.declared.corner.Corner.{Corner}
 use Rattle.star_walk.specs.declared.star_fault.StarFault.{StarFault}
 use Rattle.star_walk.specs.declared.star_fault.StarFault.TheVariants.{DepthLimit, TooBig}
-use Rattle.star_walk.specs.Causes.{HasCause}
+use Rattle.star_walk.specs.Causes.{HasStarCause}
 use Rattle.star_walk.specs.Corners.{corner_in}
-use Rattle.star_walk.specs.Round.{AreRound, AreInTurn, IsLeastEnough}
+use Rattle.star_walk.specs.Round.{AreRound, AreInTurn, IsLeastForVertex}
 use Rattle.tile_shape.specs.Views.{address_of}
 use Rattle.c_values.specs.declared.plain_tile.PlainTile.{PlainTile}
 use Rattle.c_values.specs.declared.plain_vertex_star.PlainVertexStar.{PlainVertexStar}
@@ -40,7 +40,7 @@ pub record HoldsCorners (corners : List Corner) (old new : PlainVertexStar) : Ty
 pub record ShowsStar (t : Tiling) (start : FrameValue) (vertex : ℕ) (old new : PlainVertexStar) : Type 0 where
   pub frame : FrameValue
   pub grown : GrowsTo t start frame
-  pub least : IsLeastEnough t start vertex (length frame.digits)
+  pub least : IsLeastForVertex t start vertex (length frame.digits)
   pub corners : List Corner
   pub stand : All (λ (c : Corner). Stands t frame c.tile) corners
   pub round : AreRound t frame vertex (map (corner_in t.order) corners)
@@ -57,5 +57,5 @@ pub record EndsTurn (t : Tiling) (start : FrameValue) (vertex : ℕ) (status : �
   pub frame : FrameValue
   pub grown : GrowsTo t start frame
   pub fault : StarFault
-  pub cause : HasCause t frame vertex fault
+  pub cause : HasStarCause t frame vertex fault
   pub is_status : status ≡ code_of_star fault

@@ -1,4 +1,5 @@
--- Arrays of tiles and addresses as a list of the tiles of a window: when it is right, and what is wrong with it.
+-- Arrays of tiles and addresses as a list of the tiles of a window: when it is right, and what is wrong with
+-- it.
 use Rattle.std.specs.Prelude.{◌≡◌, ◌⊎◌, ℕ, ◌-◌, ◌<◌, ◌≤◌, List, [], ◌∷◌, length, None}
 use Rattle.cyclo_points.specs.Order.{is_refused}
 use Rattle.cyclo_points.specs.Point.{point_in}
@@ -21,7 +22,7 @@ use Rattle.c_values.specs.Addresses.{address_in, NamesTile}
 use Rattle.c_values.specs.Statuses.{bad_listing, depth_limit, coord_limit, no_memory}
 use Rattle.c_values.specs.Tiles.{motion_of, GivesMotion}
 use Rattle.c_values.specs.Windows.{GivesWindow}
-use Rattle.tiling_c.specs.Arrays.{tile_at, address_at}
+use Rattle.tiling_c.specs.Arrays.{plain_tile_at, plain_address_at}
 
 -- a tile and its address as an entry of a list
 abbrev pub entry_given : PlainTile → PlainAddress → Entry
@@ -37,7 +38,8 @@ entries_given (tile ∷ tiles) (addr ∷ addrs) = entry_given tile addr ∷ entr
 abbrev pub listing_given : List PlainTile → List PlainAddress → List ℕ
 listing_given tiles addrs = entries_text (entries_given tiles addrs)
 
--- the address names a tile of the tiling, which has the kind that is given, and the turn and the shift give a motion
+-- the address names a tile of the tiling, which has the kind that is given, and the turn and the shift give a
+-- motion
 pub record IsEntry (t : Tiling) (tile : PlainTile) (addr : PlainAddress) : Type 0 where
   pub named : NamesTile t addr
   pub same_kind : tile.kind ≡ addr.kind
@@ -45,30 +47,34 @@ pub record IsEntry (t : Tiling) (tile : PlainTile) (addr : PlainAddress) : Type 
 
 -- this holds of each entry
 abbrev pub AreEntries : Tiling → List PlainTile → List PlainAddress → Type 0
-AreEntries t tiles addrs = (i : ℕ) → i < length tiles → IsEntry t (tile_at tiles i) (address_at addrs i)
+AreEntries t tiles addrs = (i : ℕ) → i < length tiles
+    → IsEntry t (plain_tile_at tiles i) (plain_address_at addrs i)
 
 -- entry i is the first of which it doesn't
-pub record IsFirstNoEntry (t : Tiling) (tiles : List PlainTile) (addrs : List PlainAddress) (i : ℕ) : Type 0 where
+pub record IsFirstNoEntry (t : Tiling) (tiles : List PlainTile) (addrs : List PlainAddress)
+    (i : ℕ) : Type 0 where
   pub below : i < length tiles
-  pub no_entry : ¬ IsEntry t (tile_at tiles i) (address_at addrs i)
-  pub first : (j : ℕ) → j < i → IsEntry t (tile_at tiles j) (address_at addrs j)
+  pub no_entry : ¬ IsEntry t (plain_tile_at tiles i) (plain_address_at addrs i)
+  pub first : (j : ℕ) → j < i → IsEntry t (plain_tile_at tiles j) (plain_address_at addrs j)
 
 -- the numbers give a window, and there are as many addresses as tiles, not too many
-pub record AsksToVerify (window : PlainWindow) (tiles : List PlainTile) (addrs : List PlainAddress) : Type 0 where
+pub record AsksToVerify (window : PlainWindow) (tiles : List PlainTile)
+    (addrs : List PlainAddress) : Type 0 where
   pub window_given : GivesWindow window
   pub same_length : length addrs ≡ length tiles
   pub few : length tiles ≤ most_lines
 
--- The arrays have exactly the tiles of the frame that meet the window, each exactly once and with its motion, in any order. No value on the way to the window's
--- centre is refused, and no shift of theirs.
-pub record AreTilesOf (t : Tiling) (f : FrameValue) (w : Window) (tiles : List PlainTile) (addrs : List PlainAddress) : Type 0 where
+-- The arrays have exactly the tiles of the frame that meet the window, each exactly once and with its motion,
+-- in any order. No value on the way to the window's centre is refused, and no shift of theirs.
+pub record AreTilesOf (t : Tiling) (f : FrameValue) (w : Window) (tiles : List PlainTile)
+    (addrs : List PlainAddress) : Type 0 where
   pub entries : AreEntries t tiles addrs
   pub right : IsRightFor t f w (entries_given tiles addrs)
   pub unrefused : AreUnrefused (is_refused t.order) (tiles_listed t (entries_given tiles addrs))
   pub centre_found : first_refused_outward t f (point_in t.order w.centre) ≡ None
 
--- the numbers of faults: an entry that is no tile; one that is not of the frame, or is that of an earlier one; a tile of the window that is missing; one with
--- another motion; one that does not meet the window
+-- the numbers of faults: an entry that is no tile; one that is not of the frame, or is that of an earlier
+-- one; a tile of the window that is missing; one with another motion; one that does not meet the window
 abbrev pub fault_no_tile : ℕ
 fault_no_tile = 1
 
@@ -95,9 +101,10 @@ status_told (CoordLimit value) = coord_limit
 status_told NoMemory = no_memory
 status_told _ = bad_listing
 
--- All entries are tiles, and their listing is not right, for a cause in the frame as it had grown by then. This is
--- the status of the fault, its number and its index.
-pub record IsFaultOfListing (t : Tiling) (f : FrameValue) (w : Window) (tiles : List PlainTile) (addrs : List PlainAddress) (status fault index : ℕ) : Type 0 where
+-- All entries are tiles, and their listing is not right, for a cause in the frame as it had grown by then.
+-- This is the status of the fault, its number and its index.
+pub record IsFaultOfListing (t : Tiling) (f : FrameValue) (w : Window) (tiles : List PlainTile)
+    (addrs : List PlainAddress) (status fault index : ℕ) : Type 0 where
   pub entries : AreEntries t tiles addrs
   pub why : ListFault
   pub frame : FrameValue
@@ -109,11 +116,14 @@ pub record IsFaultOfListing (t : Tiling) (f : FrameValue) (w : Window) (tiles : 
   pub its_index : status ≡ bad_listing → index ≡ line_told why - 1
 
 -- the first entry that is no tile is told
-pub record TellsNoTile (t : Tiling) (tiles : List PlainTile) (addrs : List PlainAddress) (status fault index : ℕ) : Type 0 where
+pub record TellsNoTile (t : Tiling) (tiles : List PlainTile) (addrs : List PlainAddress)
+    (status fault index : ℕ) : Type 0 where
   pub is_status : status ≡ bad_listing
   pub is_fault : fault ≡ fault_no_tile
   pub first : IsFirstNoEntry t tiles addrs index
 
 -- the arrays are not those of the window: an entry is no tile, or their listing is not right
-abbrev pub AreWrong : Tiling → FrameValue → Window → List PlainTile → List PlainAddress → (status fault index : ℕ) → Type 0
-AreWrong t f w tiles addrs status fault index = TellsNoTile t tiles addrs status fault index ⊎ IsFaultOfListing t f w tiles addrs status fault index
+abbrev pub AreWrong : Tiling → FrameValue → Window → List PlainTile → List PlainAddress
+    → (status fault index : ℕ) → Type 0
+AreWrong t f w tiles addrs status fault index = TellsNoTile t tiles addrs status fault index
+    ⊎ IsFaultOfListing t f w tiles addrs status fault index

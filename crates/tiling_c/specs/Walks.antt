@@ -14,42 +14,51 @@ use Rattle.c_values.specs.declared.plain_tile.PlainTile.{PlainTile}
 use Rattle.c_values.specs.Addresses.{address_in, ShowsAddress}
 use Rattle.c_values.specs.Statuses.{no_edge, depth_limit}
 use Rattle.c_values.specs.Tiles.{tile_as}
-use Rattle.tiling_c.specs.Arrays.{tile_at, address_at}
+use Rattle.tiling_c.specs.Arrays.{plain_tile_at, plain_address_at}
 
 -- the most edges of a path
 abbrev pub most_edges : ℕ
 most_edges = 30000
 
 -- the numbers are those of a tile in its place in the frame, with this number, and those of its address
-pub record ShowsStanding (t : Tiling) (f : FrameValue) (number : ℕ) (numbers : PlainTile) (addr : PlainAddress) : Type 0 where
+pub record ShowsStanding (t : Tiling) (f : FrameValue) (number : ℕ) (numbers : PlainTile)
+    (addr : PlainAddress) : Type 0 where
   pub tile : PlacedTile
   pub stands : Stands t f tile
   pub its_numbers : numbers ≡ tile_as tile.kind tile.motion number
   pub its_address : ShowsAddress addr (address_of tile.addr)
 
--- tile i + 1 is the only one across edge i of the path from tile i; its edge there is `back`, and it is in its place, with that number
-pub record IsReached (t : Tiling) (f : FrameValue) (path : List ℕ) (tiles : List PlainTile) (addrs : List PlainAddress) (i : ℕ) : Type 0 where
+-- tile i + 1 is the only one across edge i of the path from tile i; its edge there is `back`, and it is in
+-- its place, with that number
+pub record IsReached (t : Tiling) (f : FrameValue) (path : List ℕ) (tiles : List PlainTile)
+    (addrs : List PlainAddress) (i : ℕ) : Type 0 where
   pub back : ℕ
-  pub across : IsOnlyAcross t (address_in (address_at addrs i)) (get_or path i 0) (address_in (address_at addrs (i + 1))) back
-  pub stands : ShowsStanding t f back (tile_at tiles (i + 1)) (address_at addrs (i + 1))
+  pub across : IsOnlyAcross t (address_in (plain_address_at addrs i)) (get_or path i 0)
+      (address_in (plain_address_at addrs (i + 1))) back
+  pub stands : ShowsStanding t f back (plain_tile_at tiles (i + 1)) (plain_address_at addrs (i + 1))
 
 -- the tiles of a path in a frame, the base first: each after it is the only one across its edge
-pub record AreWalked (t : Tiling) (f : FrameValue) (path : List ℕ) (tiles : List PlainTile) (addrs : List PlainAddress) : Type 0 where
-  pub base : address_in (address_at addrs 0) ≡ whole f
-  pub base_stands : ShowsStanding t f 0 (tile_at tiles 0) (address_at addrs 0)
+pub record AreWalked (t : Tiling) (f : FrameValue) (path : List ℕ) (tiles : List PlainTile)
+    (addrs : List PlainAddress) : Type 0 where
+  pub base : address_in (plain_address_at addrs 0) ≡ whole f
+  pub base_stands : ShowsStanding t f 0 (plain_tile_at tiles 0) (plain_address_at addrs 0)
   pub each : (i : ℕ) → i < length path → IsReached t f path tiles addrs i
 
--- The frame has grown from `start` to the least depth at which no edge of the path is on the boundary. The depth is at least that of `start`, and at least
--- `grow`. These are the tiles of the path there.
-pub record ShowsWalk (t : Tiling) (start : FrameValue) (grow : ℕ) (path : List ℕ) (tiles : List PlainTile) (addrs : List PlainAddress) : Type 0 where
+-- The frame has grown from `start` to the least depth at which no edge of the path is on the boundary. The
+-- depth is at least that of `start`, and at least `grow`. These are the tiles of the path there.
+pub record ShowsWalk (t : Tiling) (start : FrameValue) (grow : ℕ) (path : List ℕ) (tiles : List PlainTile)
+    (addrs : List PlainAddress) : Type 0 where
   pub frame : FrameValue
   pub grown : GrowsTo t start frame
   pub no_shallower : max (length start.digits) grow ≤ length frame.digits
-  pub least : (n : ℕ) → max (length start.digits) grow ≤ n → n < length frame.digits → IsStopped t (whole (at_depth t n start)) path
+  pub least : (n : ℕ) → max (length start.digits) grow ≤ n → n < length frame.digits
+      → IsStopped t (whole (at_depth t n start)) path
   pub walked : AreWalked t frame path tiles addrs
 
--- the frame grows first to at most 64 levels, the path has at most 30,000 edges, and there is room for exactly its tiles and their addresses
-pub record AsksForWalk (grow : ℕ) (path : List ℕ) (tiles : List PlainTile) (addrs : List PlainAddress) : Type 0 where
+-- the frame grows first to at most 64 levels, the path has at most 30,000 edges, and there is room for
+-- exactly its tiles and their addresses
+pub record AsksForWalk (grow : ℕ) (path : List ℕ) (tiles : List PlainTile)
+    (addrs : List PlainAddress) : Type 0 where
   pub at_most_64 : grow ≤ 64
   pub no_longer : length path ≤ most_edges
   pub tiles_room : length tiles ≡ length path + 1

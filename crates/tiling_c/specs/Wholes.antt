@@ -7,9 +7,9 @@ use Rattle.half_glue.specs.declared.whole_tile.WholeTile.{WholeTile}
 use Rattle.half_glue.specs.Causes.{HasGlueCause}
 use Rattle.half_glue.specs.Covering.{WholesCover}
 use Rattle.half_glue.specs.Depth.{IsLeastForGlue}
-use Rattle.half_glue.specs.InOrder.{AreInOrder}
+use Rattle.half_glue.specs.InOrder.{AreWholesInOrder}
 use Rattle.half_glue.specs.Limits.{CanBeGlued}
-use Rattle.half_glue.specs.Outline.{parts_of}
+use Rattle.half_glue.specs.Outline.{whole_parts}
 use Rattle.half_glue.specs.WholeTiles.{AreWholeTilesOf}
 use Rattle.theory_walks.specs.Frames.{FrameValue, GrowsTo}
 use Rattle.plane_geom.specs.declared.window.Window.{Window}
@@ -22,7 +22,7 @@ use Rattle.c_values.specs.declared.plain_tile.PlainTile.{PlainTile}
 use Rattle.c_values.specs.declared.plain_whole_tile.PlainWholeTile.{PlainWholeTile}
 use Rattle.c_values.specs.Addresses.{ShowsAddress, blank_address}
 use Rattle.c_values.specs.Statuses.{depth_limit, coord_limit, no_memory}
-use Rattle.tiling_c.specs.Arrays.{tile_at, address_at}
+use Rattle.tiling_c.specs.Arrays.{plain_tile_at, plain_address_at}
 use Rattle.tiling_c.specs.Covering.{EndsCover}
 use Rattle.tiling_c.specs.Shown.{tile_shown, address_shown}
 
@@ -33,35 +33,42 @@ pub record ShowsTile (x : PlacedTile) (tile : PlainTile) (addr : PlainAddress) :
 
 -- the numbers are those of the parts of a whole tile, and there are as many as it has
 pub record ShowsWhole (whole : WholeTile) (p : PlainWholeTile) : Type 0 where
-  pub first : ShowsTile whole.first (tile_at p.tiles 0) (address_at p.addrs 0)
-  pub second : IfSome whole.second (λ x. ShowsTile x (tile_at p.tiles 1) (address_at p.addrs 1))
-  pub no_second : whole.second ≡ None → (tile_at p.tiles 1 ≡ refused_as 0) × (address_at p.addrs 1 ≡ blank_address)
-  pub count : p.parts ≡ length (parts_of whole)
+  pub first : ShowsTile whole.first (plain_tile_at p.tiles 0) (plain_address_at p.addrs 0)
+  pub second : IfSome whole.second (λ x. ShowsTile x (plain_tile_at p.tiles 1) (plain_address_at p.addrs 1))
+  pub no_second : whole.second ≡ None
+      → (plain_tile_at p.tiles 1 ≡ refused_as 0) × (plain_address_at p.addrs 1 ≡ blank_address)
+  pub count : p.parts ≡ length (whole_parts whole)
 
 -- what stands for no whole tile
 abbrev pub no_whole : PlainWholeTile
 no_whole = record { tiles = []; addrs = []; parts = 0 }
 
--- The whole tiles are at the front of an array, as many as it has room for. The entries after them are as they were.
+-- The whole tiles are at the front of an array, as many as it has room for. The entries after them are as
+-- they were.
 pub record HoldsWholes (all : List WholeTile) (old new : List PlainWholeTile) : Type 0 where
-  pub each : (i : ℕ) → i < min (length all) (length old) → IfSome (slice_get all i) (λ w. ShowsWhole w (get_or new i no_whole))
+  pub each : (i : ℕ) → i < min (length all) (length old)
+      → IfSome (slice_get all i) (λ w. ShowsWhole w (get_or new i no_whole))
   pub behind : drop (min (length all) (length old)) new ≡ drop (min (length all) (length old)) old
 
--- All of these tiles of the frame can be glued. The frame has grown on to the least depth at which no glue edge of theirs is on the boundary. These are exactly
--- their whole tiles, each once and in order. `count` is their number, and they are in the array, as far as there is room.
-pub record ShowsGlued (t : Tiling) (frame : FrameValue) (tiles : List PlacedTile) (old new : List PlainWholeTile) (count : ℕ) : Type 0 where
+-- All of these tiles of the frame can be glued. The frame has grown on to the least depth at which no glue
+-- edge of theirs is on the boundary. These are exactly their whole tiles, each once and in order. `count` is
+-- their number, and they are in the array, as far as there is room.
+pub record ShowsGlued (t : Tiling) (frame : FrameValue) (tiles : List PlacedTile)
+    (old new : List PlainWholeTile) (count : ℕ) : Type 0 where
   pub can_be_glued : CanBeGlued t frame tiles
   pub glued_frame : FrameValue
   pub grown : GrowsTo t frame glued_frame
   pub least : IsLeastForGlue t frame tiles (length glued_frame.digits)
   pub all : List WholeTile
   pub whole_tiles : AreWholeTilesOf t glued_frame tiles all
-  pub in_order : AreInOrder all
+  pub in_order : AreWholesInOrder all
   pub number : count ≡ length all
   pub held : HoldsWholes all old new
 
--- The tiles are exactly those of a frame, grown from `start`, that meet the window. These are their whole tiles, and they cover the window.
-pub record ShowsWholes (t : Tiling) (start : FrameValue) (window : Window) (old new : List PlainWholeTile) (count : ℕ) : Type 0 where
+-- The tiles are exactly those of a frame, grown from `start`, that meet the window. These are their whole
+-- tiles, and they cover the window.
+pub record ShowsWholes (t : Tiling) (start : FrameValue) (window : Window) (old new : List PlainWholeTile)
+    (count : ℕ) : Type 0 where
   pub frame : FrameValue
   pub tiles : List PlacedTile
   pub exactly : TilesOfWindow t start window frame tiles

@@ -1,7 +1,7 @@
 //! Addresses and their texts.
 ghost use Rattle.std.specs.Prelude.{◌≡◌, ◌↔◌, ◌⊎◌, ◌<◌, ◌≤◌, ◌++◌, Ok, IsOk, length, take, drop};
 ghost use Rattle.rule_model.specs.Tiling.{tiling_of, children};
-ghost use Rattle.tile_shape.specs.AddressIn.{address_in as address_of_text};
+ghost use Rattle.tile_shape.specs.AddressIn.{address_of_text as address_of_text};
 ghost use Rattle.tile_shape.specs.Text.{address_text};
 ghost use Rattle.c_values.specs.Addresses.{address_in, NamesTile};
 ghost use Rattle.c_values.specs.Statuses.{ok, bad_words, bad_address};

@@ -2,7 +2,7 @@
 ghost use Rattle.std.specs.Prelude.{◌≡◌, ◌↔◌, ◌⊎◌, length, IsTrue};
 ghost use Rattle.theory_walks.specs.Frames.{IsFrameOf};
 ghost use Rattle.rule_model.specs.Tiling.{tiling_of};
-ghost use Rattle.window_cover.specs.Limits.{IsWithinLimits};
+ghost use Rattle.window_cover.specs.Limits.{IsCoverWithinLimits};
 ghost use Rattle.window_cover.specs.Windows.{IsWindow};
 ghost use Rattle.c_values.specs.Addresses.{NamesTile};
 ghost use Rattle.c_values.specs.Frames.{frame_in};
@@ -91,8 +91,8 @@ fn put_window(
     requires lengths { (length addrs.old ≡ 0) ⊎ (length addrs.old ≡ length tiles.old) }
     ensures covers { result ≡ ok → IsCover (tiling_of machine.now) frame.old window.now tiles.old tiles.new
         addrs.old addrs.new count.new }
-    ensures within { result ≡ ok → IsWithinLimits (tiling_of machine.now) frame.old window.now }
-    ensures answered { IsWithinLimits (tiling_of machine.now) frame.old window.now → (result ≡ ok)
+    ensures within { result ≡ ok → IsCoverWithinLimits (tiling_of machine.now) frame.old window.now }
+    ensures answered { IsCoverWithinLimits (tiling_of machine.now) frame.old window.now → (result ≡ ok)
         ⊎ (result ≡ no_memory) }
     ensures ended { ¬ result ≡ ok → EndsCover (tiling_of machine.now) frame.old window.now result }
     ensures unchanged { ¬ result ≡ ok → (tiles.new ≡ tiles.old) × (addrs.new ≡ addrs.old)
@@ -130,11 +130,11 @@ fn cover(
     ensures covers { result ≡ ok → IsCover (tiling_of machine.now) (frame_in frame.now)
         (window_in machine.now.order window.now)
         tiles.old tiles.new addrs.old addrs.new count.new }
-    ensures within { result ≡ ok → IsWithinLimits (tiling_of machine.now) (frame_in frame.now)
+    ensures within { result ≡ ok → IsCoverWithinLimits (tiling_of machine.now) (frame_in frame.now)
         (window_in machine.now.order window.now) }
     ensures answered { AsksForWindow window.now tiles.old addrs.old
         → NamesTile (tiling_of machine.now) frame.now.base
-        → IsWithinLimits (tiling_of machine.now) (frame_in frame.now)
+        → IsCoverWithinLimits (tiling_of machine.now) (frame_in frame.now)
         (window_in machine.now.order window.now) → (result ≡ ok) ⊎ (result ≡ no_memory) }
     ensures bad_words { (result ≡ bad_words) ↔ (¬ AsksForWindow window.now tiles.old addrs.old) }
     ensures bad_address { (result ≡ bad_address)
@@ -179,11 +179,11 @@ pub extern "C" fn tiling_cover(
 
     // The call succeeds exactly within the limits, unless memory runs out, and each refusal comes only for
     // its cause.
-    ensures within { result ≡ ok → IsWithinLimits (tiling_of t.rule) (frame_in frame.now)
+    ensures within { result ≡ ok → IsCoverWithinLimits (tiling_of t.rule) (frame_in frame.now)
         (window_in t.rule.order window.now) }
     ensures answered { AsksForWindow window.now tiles.old addrs.old
         → NamesTile (tiling_of t.rule) frame.now.base
-        → IsWithinLimits (tiling_of t.rule) (frame_in frame.now) (window_in t.rule.order window.now)
+        → IsCoverWithinLimits (tiling_of t.rule) (frame_in frame.now) (window_in t.rule.order window.now)
         → (result ≡ ok) ⊎ (result ≡ no_memory) }
     ensures bad_words { (result ≡ bad_words) ↔ (¬ AsksForWindow window.now tiles.old addrs.old) }
     ensures bad_address { (result ≡ bad_address)

@@ -2,7 +2,7 @@
 ghost use Rattle.std.specs.Prelude.{◌≡◌, ◌↔◌, ◌⊎◌, ◌<◌, ℕ, length, get_or};
 ghost use Rattle.rule_model.specs.Tiling.{tiling_of};
 ghost use Rattle.c_values.specs.Statuses.{ok, bad_words};
-ghost use Rattle.tiling_c.specs.Arrays.{ShowsCrossingInArray, crossing_at, address_at};
+ghost use Rattle.tiling_c.specs.Arrays.{ShowsCrossingInArray, crossing_at, plain_address_at};
 
 use crate::crossing::cross_edge;
 use c_values::plain_address::PlainAddress;
@@ -19,8 +19,8 @@ pub fn cross_all(
     crossings: &mut [PlainCrossing],
 ) -> u8
     ensures each { result ≡ ok → (i : ℕ) → i < length edges.now
-        → ShowsCrossingInArray (tiling_of machine.now) (address_at addrs.old i)
-        (get_or edges.now i 0) (address_at addrs.new i) (crossing_at crossings.new i) }
+        → ShowsCrossingInArray (tiling_of machine.now) (plain_address_at addrs.old i)
+        (get_or edges.now i 0) (plain_address_at addrs.new i) (crossing_at crossings.new i) }
     ensures bad_words { (result ≡ bad_words) ↔ (¬
         ((length addrs.old ≡ length edges.now) × (length crossings.old ≡ length edges.now))) }
     ensures addresses_unchanged { ¬ result ≡ ok → addrs.new ≡ addrs.old }
@@ -49,8 +49,8 @@ pub extern "C" fn tiling_neighbour_all(
     crossings: &mut [PlainCrossing],
 ) -> u8
     ensures each { result ≡ ok → (i : ℕ) → i < length edges.now
-        → ShowsCrossingInArray (tiling_of t.rule) (address_at addrs.old i)
-        (get_or edges.now i 0) (address_at addrs.new i) (crossing_at crossings.new i) }
+        → ShowsCrossingInArray (tiling_of t.rule) (plain_address_at addrs.old i)
+        (get_or edges.now i 0) (plain_address_at addrs.new i) (crossing_at crossings.new i) }
     ensures bad_words { (result ≡ bad_words) ↔ (¬
         ((length addrs.old ≡ length edges.now) × (length crossings.old ≡ length edges.now))) }
     ensures addresses_unchanged { ¬ result ≡ ok → addrs.new ≡ addrs.old }

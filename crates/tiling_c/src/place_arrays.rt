@@ -2,7 +2,7 @@
 ghost use Rattle.std.specs.Prelude.{◌≡◌, ◌↔◌, ◌⊎◌, ◌<◌, ℕ, length};
 ghost use Rattle.rule_model.specs.Tiling.{tiling_of};
 ghost use Rattle.c_values.specs.Statuses.{ok, bad_words};
-ghost use Rattle.tiling_c.specs.Arrays.{ShowsPlace, address_at, tile_at};
+ghost use Rattle.tiling_c.specs.Arrays.{ShowsPlace, plain_address_at, plain_tile_at};
 
 use crate::placing::put_place;
 use c_values::plain_address::PlainAddress;
@@ -24,7 +24,7 @@ fn show_place(machine: &Machine, addr: &PlainAddress, tile: &mut PlainTile)
 /// Puts where each tile lies.
 pub fn put_places(machine: &Machine, addrs: &[PlainAddress], tiles: &mut [PlainTile]) -> u8
     ensures each { result ≡ ok → (i : ℕ) → i < length addrs.now
-        → ShowsPlace (tiling_of machine.now) (address_at addrs.now i) (tile_at tiles.new i) }
+        → ShowsPlace (tiling_of machine.now) (plain_address_at addrs.now i) (plain_tile_at tiles.new i) }
     ensures bad_words { (result ≡ bad_words) ↔ (¬ length addrs.now ≡ length tiles.old) }
     ensures unchanged { ¬ result ≡ ok → tiles.new ≡ tiles.old }
     ensures statuses { (result ≡ ok) ⊎ (result ≡ bad_words) }
@@ -47,7 +47,7 @@ pub extern "C" fn tiling_place_all(
     tiles: &mut [PlainTile],
 ) -> u8
     ensures each { result ≡ ok → (i : ℕ) → i < length addrs.now
-        → ShowsPlace (tiling_of t.rule) (address_at addrs.now i) (tile_at tiles.new i) }
+        → ShowsPlace (tiling_of t.rule) (plain_address_at addrs.now i) (plain_tile_at tiles.new i) }
     ensures bad_words { (result ≡ bad_words) ↔ (¬ length addrs.now ≡ length tiles.old) }
     ensures unchanged { ¬ result ≡ ok → tiles.new ≡ tiles.old }
     ensures statuses { (result ≡ ok) ⊎ (result ≡ bad_words) }

@@ -10,7 +10,7 @@ ghost use Rattle.tile_place.specs.Crossed.{edges_of};
 ghost use Rattle.c_values.specs.Outlines.{corners_in, HoldsOutline};
 ghost use Rattle.c_values.specs.Statuses.{ok, bad_words, no_edge};
 ghost use Rattle.c_values.specs.Tiles.{motion_of};
-ghost use Rattle.tiling_c.specs.Shapes.{HasKind, IsTile};
+ghost use Rattle.tiling_c.specs.Shapes.{HasKind, IsPlainTile};
 
 use crate::rule_numbers::kinds_of;
 use arrayvec::ArrayVec;
@@ -123,7 +123,7 @@ pub fn put_corners(machine: &Machine, tile: &PlainTile, out: &mut PlainOutline) 
         (corners_in out.new) }
     ensures behind { result ≡ ok
         → drop out.new.count out.new.corners ≡ drop out.new.count out.old.corners }
-    ensures bad_words { (result ≡ bad_words) ↔ (¬ IsTile (tiling_of machine.now) tile.now) }
+    ensures bad_words { (result ≡ bad_words) ↔ (¬ IsPlainTile (tiling_of machine.now) tile.now) }
     ensures unchanged { ¬ result ≡ ok → out.new ≡ out.old }
     ensures statuses { (result ≡ ok) ⊎ (result ≡ bad_words) }
 {
@@ -147,7 +147,7 @@ pub extern "C" fn tiling_corners(t: SharedMachine, tile: &PlainTile, out: &mut P
         (corners_in out.new) }
     ensures behind { result ≡ ok
         → drop out.new.count out.new.corners ≡ drop out.new.count out.old.corners }
-    ensures bad_words { (result ≡ bad_words) ↔ (¬ IsTile (tiling_of t.rule) tile.now) }
+    ensures bad_words { (result ≡ bad_words) ↔ (¬ IsPlainTile (tiling_of t.rule) tile.now) }
     ensures unchanged { ¬ result ≡ ok → out.new ≡ out.old }
     ensures statuses { (result ≡ ok) ⊎ (result ≡ bad_words) }
 {

@@ -1,7 +1,7 @@
 //! The tiles around a vertex.
 ghost use Rattle.std.specs.Prelude.{◌≡◌, ◌↔◌, ◌⊎◌, ◌<◌, ◌≤◌, length};
 ghost use Rattle.rule_model.specs.Tiling.{tiling_of};
-ghost use Rattle.star_walk.specs.Causes.{IsWithinLimits};
+ghost use Rattle.star_walk.specs.Causes.{IsStarWithinLimits};
 ghost use Rattle.star_walk.specs.Corners.{HasVertex};
 ghost use Rattle.tile_place.specs.Crossed.{edges_of};
 ghost use Rattle.c_values.specs.Addresses.{NamesTile};
@@ -56,8 +56,8 @@ fn put_star<L: Ledger>(
 ) -> u8
     requires vertex { HasVertex (tiling_of machine.now) frame.old vertex }
     ensures star { result ≡ ok → ShowsStar (tiling_of machine.now) frame.old vertex out.old out.new }
-    ensures within { result ≡ ok → IsWithinLimits (tiling_of machine.now) frame.old vertex }
-    ensures answered { IsWithinLimits (tiling_of machine.now) frame.old vertex → result ≡ ok }
+    ensures within { result ≡ ok → IsStarWithinLimits (tiling_of machine.now) frame.old vertex }
+    ensures answered { IsStarWithinLimits (tiling_of machine.now) frame.old vertex → result ≡ ok }
     ensures ended { ¬ result ≡ ok → EndsTurn (tiling_of machine.now) frame.old vertex result }
     ensures unchanged { ¬ result ≡ ok → out.new ≡ out.old }
     ensures statuses { (result ≡ ok) ⊎ (result ≡ depth_limit) ⊎ (result ≡ star_too_big) }
@@ -82,10 +82,10 @@ pub fn turn<L: Ledger>(
     requires blank { (blank.name ≡ L.name) × (blank.parts ≡ L.parts) × (0 < blank.parts) }
     ensures star { result ≡ ok
         → ShowsStar (tiling_of machine.now) (frame_in frame.now) vertex out.old out.new }
-    ensures within { result ≡ ok → IsWithinLimits (tiling_of machine.now) (frame_in frame.now) vertex }
+    ensures within { result ≡ ok → IsStarWithinLimits (tiling_of machine.now) (frame_in frame.now) vertex }
     ensures answered { NamesTile (tiling_of machine.now) frame.now.base
         → vertex < edges_of (tiling_of machine.now) frame.now.base.kind
-        → IsWithinLimits (tiling_of machine.now) (frame_in frame.now) vertex → result ≡ ok }
+        → IsStarWithinLimits (tiling_of machine.now) (frame_in frame.now) vertex → result ≡ ok }
     ensures bad_address { (result ≡ bad_address) ↔ (¬ NamesTile (tiling_of machine.now) frame.now.base) }
     ensures no_vertex { (result ≡ no_vertex) ↔ (NamesTile (tiling_of machine.now) frame.now.base
         × (edges_of (tiling_of machine.now) frame.now.base.kind ≤ vertex)) }
@@ -118,10 +118,10 @@ pub extern "C" fn tiling_star(
     ensures star { result ≡ ok → ShowsStar (tiling_of t.rule) (frame_in frame.now) vertex out.old out.new }
 
     // The call succeeds exactly within the limits, and each refusal comes only for its cause.
-    ensures within { result ≡ ok → IsWithinLimits (tiling_of t.rule) (frame_in frame.now) vertex }
+    ensures within { result ≡ ok → IsStarWithinLimits (tiling_of t.rule) (frame_in frame.now) vertex }
     ensures answered { NamesTile (tiling_of t.rule) frame.now.base
         → vertex < edges_of (tiling_of t.rule) frame.now.base.kind
-        → IsWithinLimits (tiling_of t.rule) (frame_in frame.now) vertex → result ≡ ok }
+        → IsStarWithinLimits (tiling_of t.rule) (frame_in frame.now) vertex → result ≡ ok }
     ensures bad_address { (result ≡ bad_address) ↔ (¬ NamesTile (tiling_of t.rule) frame.now.base) }
     ensures no_vertex { (result ≡ no_vertex) ↔ (NamesTile (tiling_of t.rule) frame.now.base
         × (edges_of (tiling_of t.rule) frame.now.base.kind ≤ vertex)) }

@@ -11,7 +11,7 @@ ghost use Rattle.c_values.specs.Addresses.{NamesTile};
 ghost use Rattle.c_values.specs.Frames.{frame_in};
 ghost use Rattle.c_values.specs.Statuses.{ok, bad_words, bad_address, bad_listing, no_memory};
 ghost use Rattle.c_values.specs.Windows.{window_in};
-ghost use Rattle.tiling_c.specs.Arrays.{tile_at, address_at};
+ghost use Rattle.tiling_c.specs.Arrays.{plain_tile_at, plain_address_at};
 ghost use Rattle.tiling_c.specs.Verifying.{entry_given, listing_given, IsEntry, IsFirstNoEntry, AsksToVerify, AreTilesOf, AreWrong, fault_of, line_told, status_told};
 ghost use Rattle.tiling_c.specs.declared.verifying.NotListed.{NotListed};
 ghost use Rattle.tiling_c.specs.declared.verifying.NotListed.TheVariants as unlisted;
@@ -110,9 +110,9 @@ fn listing(
     requires same { length addrs.now ≡ length tiles.now }
     ensures text { IfOk result (λ text. text.items ≡ listing_given tiles.now addrs.now) }
     ensures entries { IfOk result (λ _. (i : ℕ) → i < length tiles.now
-        → IsEntry (tiling_of machine.now) (tile_at tiles.now i) (address_at addrs.now i)
+        → IsEntry (tiling_of machine.now) (plain_tile_at tiles.now i) (plain_address_at addrs.now i)
         × CanBeListed (children (tiling_of machine.now))
-        (entry_given (tile_at tiles.now i) (address_at addrs.now i))) }
+        (entry_given (plain_tile_at tiles.now i) (plain_address_at addrs.now i))) }
     ensures no_tile { IfErr result (λ fault. (fault ≡ unlisted.NoMemory)
         ⊎ (i : ℕ) × (fault ≡ unlisted.NoTile i)
         × IsFirstNoEntry (tiling_of machine.now) tiles.now addrs.now i) }

@@ -7,7 +7,7 @@ ghost use Rattle.theory_walks.specs.Frames.{IsFrameOf};
 ghost use Rattle.rule_model.specs.Tiling.{tiling_of};
 ghost use Rattle.tile_app.specs.Glue.{CanBeGluedInWindow};
 ghost use Rattle.window_cover.specs.InOrder as covered;
-ghost use Rattle.window_cover.specs.Limits.{IsWithinLimits};
+ghost use Rattle.window_cover.specs.Limits.{IsCoverWithinLimits};
 ghost use Rattle.window_cover.specs.Windows.{IsWindow};
 ghost use Rattle.c_values.specs.Addresses.{NamesTile};
 ghost use Rattle.c_values.specs.Frames.{frame_in};
@@ -170,8 +170,8 @@ fn put_window(
     requires window_fits { IsWindow window.now }
     ensures wholes { result ≡ ok → ShowsWholes (tiling_of machine.now) frame.old window.now wholes.old
         wholes.new count.new }
-    ensures within { result ≡ ok → IsWithinLimits (tiling_of machine.now) frame.old window.now }
-    ensures answered { IsWithinLimits (tiling_of machine.now) frame.old window.now
+    ensures within { result ≡ ok → IsCoverWithinLimits (tiling_of machine.now) frame.old window.now }
+    ensures answered { IsCoverWithinLimits (tiling_of machine.now) frame.old window.now
         → CanBeGluedInWindow (tiling_of machine.now) frame.old window.now
         → (result ≡ ok) ⊎ (result ≡ no_memory) }
     ensures ended { ¬ result ≡ ok → EndsWholes (tiling_of machine.now) frame.old window.now result }
@@ -200,10 +200,11 @@ fn glue(
     ensures wholes { result ≡ ok → ShowsWholes (tiling_of machine.now) (frame_in frame.now)
         (window_in machine.now.order window.now)
         wholes.old wholes.new count.new }
-    ensures within { result ≡ ok → IsWithinLimits (tiling_of machine.now) (frame_in frame.now)
+    ensures within { result ≡ ok → IsCoverWithinLimits (tiling_of machine.now) (frame_in frame.now)
         (window_in machine.now.order window.now) }
     ensures answered { GivesWindow window.now → NamesTile (tiling_of machine.now) frame.now.base
-        → IsWithinLimits (tiling_of machine.now) (frame_in frame.now) (window_in machine.now.order window.now)
+        → IsCoverWithinLimits (tiling_of machine.now) (frame_in frame.now)
+        (window_in machine.now.order window.now)
         → CanBeGluedInWindow (tiling_of machine.now) (frame_in frame.now)
         (window_in machine.now.order window.now)
         → (result ≡ ok) ⊎ (result ≡ no_memory) }
@@ -244,10 +245,10 @@ pub extern "C" fn tiling_glue(
 
     // The call succeeds if the window is within the limits and its tiles can be glued, unless memory runs
     // out. Each refusal comes only for its cause.
-    ensures within { result ≡ ok → IsWithinLimits (tiling_of t.rule) (frame_in frame.now)
+    ensures within { result ≡ ok → IsCoverWithinLimits (tiling_of t.rule) (frame_in frame.now)
         (window_in t.rule.order window.now) }
     ensures answered { GivesWindow window.now → NamesTile (tiling_of t.rule) frame.now.base
-        → IsWithinLimits (tiling_of t.rule) (frame_in frame.now) (window_in t.rule.order window.now)
+        → IsCoverWithinLimits (tiling_of t.rule) (frame_in frame.now) (window_in t.rule.order window.now)
         → CanBeGluedInWindow (tiling_of t.rule) (frame_in frame.now) (window_in t.rule.order window.now)
         → (result ≡ ok) ⊎ (result ≡ no_memory) }
     ensures bad_words { (result ≡ bad_words) ↔ (¬ GivesWindow window.now) }

@@ -10,7 +10,7 @@ use Rattle.theory_addresses.specs.Tables.{Tables, KindTables, kind_tables, child
 use Rattle.theory_addresses.proofs.Ranges.{slice_get-append_left, slice_get-image}
 use Rattle.theory_addresses.proofs.TableBounds.{some_within, contact_bounds, part_bounds, child_bounds, type_bounds, part_count-within, some_of, part_there}
 use Rattle.transducer_core.specs.FlatTables.{contact_rows, part_rows, kind_rows}
-use Rattle.transducer_core.specs.Merged.{Stands, AllBegin, HasEntry, AreSpread, last_cell}
+use Rattle.transducer_core.specs.Merged.{BlockStands, AllBegin, HasEntry, AreSpread, last_cell}
 use Rattle.transducer_core.specs.Words.{word_of_contact, contact_of_word, word_of_part, part_of_word, contact_words, part_words}
 use Rattle.transducer_core.proofs.Strides.{slice_get-append_right}
 
@@ -28,7 +28,7 @@ unfolding parts_of
 parts_at t k e h = rw (some_within (kind_tables t k).parts e h).1 refl
 
 -- ---- an entry of a block
-pub stands_entry : (words : List ℕ) (s : ℕ) (block : List ℕ) (e w : ℕ) → Stands words s block
+pub stands_entry : (words : List ℕ) (s : ℕ) (block : List ℕ) (e w : ℕ) → BlockStands words s block
     → slice_get block e ≡ Some w → slice_get words (s + e) ≡ Some w
 stands_entry words s block e w h is =
     rw (h.words_are, h.start_is) (slice_get-append_right h.front (block ++ h.rest) e

@@ -12,12 +12,12 @@ use Rattle.theory_addresses.proofs.Ranges.{slice_get-image}
 use Rattle.theory_addresses.proofs.TableBounds.{some_within}
 use Rattle.transducer_core.specs.declared.joined.Joined.{Joined}
 use Rattle.transducer_core.specs.declared.merging.Merged.{Merged}
-use Rattle.transducer_core.specs.Flat.{Lists, lists_of, mates_in, subs_in, types_in, children_in, flat_tables, flat_kind, flat_contacts, flat_parts}
+use Rattle.transducer_core.specs.Flat.{Lists, lists_of, mates_in, subs_in, flat_types, children_in, flat_tables, flat_kind, flat_contacts, flat_parts}
 use Rattle.transducer_core.specs.FlatTables.{lists_in}
 use Rattle.transducer_core.specs.Merged.{IsMerged}
 use Rattle.transducer_core.specs.Words.{word_of_contact, contact_of_word, word_of_part, part_of_word, contact_words, part_words}
 use Rattle.transducer_core.proofs.FlatLooks.{kind_at, contact_back, part_entry_back}
-use Rattle.transducer_core.specs.Merging.{AreKept}
+use Rattle.transducer_core.specs.Merging.{AreBlocksKept}
 use Rattle.transducer_core.proofs.Joining.{pieces_are, subs_back, types_back, children_back}
 use Rattle.transducer_core.proofs.Standing.{take_at, block_read}
 
@@ -167,7 +167,7 @@ module _ (t : Tables) (f : Lists) (m n : ℕ) (h : Holds t f m n) where
       λ i. record { mates = h.mates i; subs = h.subs i; kinds = kinds i }
 
 -- the tables that the fields hold
-pub made : (t : Tables) (joined : Joined) (contacts parts : Merged) → IsCoherent t → AreKept (lists_of t) joined.items.items joined.ends.items
+pub made : (t : Tables) (joined : Joined) (contacts parts : Merged) → IsCoherent t → AreBlocksKept (lists_of t) joined.items.items joined.ends.items
     → IsMerged (map (λ (k : KindTables). map contact_words k.contacts) t.kinds) contacts.starts.items contacts.words.items contacts.count
     → IsMerged (map (λ (k : KindTables). map part_words k.parts) t.kinds) parts.starts.items parts.words.items parts.count
     → flat_tables (lists_in joined contacts parts) ≡ t
@@ -177,7 +177,7 @@ made t joined contacts parts coherent lists contacts_at parts_at =
       coherent = coherent;
       mates = ap mates_in read;
       subs = ap subs_in read ∙ subs_back t coherent;
-      types = ap types_in read ∙ types_back t coherent;
+      types = ap flat_types read ∙ types_back t coherent;
       children = ap children_in read ∙ children_back t coherent;
       contacts = contacts_at;
       parts = parts_at;

@@ -8,27 +8,27 @@ use Rattle.theory_addresses.specs.Coherent.{IsCoherent}
 use Rattle.theory_addresses.specs.Tables.{Tables, KindTables, kind_tables, type_of, parts_of, part_count, subs_of, child_type_of}
 use Rattle.theory_addresses.proofs.Ranges.{slice_get-append_left, slice_get-image}
 use Rattle.theory_addresses.proofs.TableBounds.{some_of, some_within, type_bounds}
-use Rattle.transducer_core.specs.Flat.{lists_of, subs_in, sides_in, types_in, children_in, pieces}
-use Rattle.transducer_core.specs.Merged.{Stands}
-use Rattle.transducer_core.specs.Merging.{ends_of, AreKept}
+use Rattle.transducer_core.specs.Flat.{lists_of, subs_in, sides_in, flat_types, children_in, pieces}
+use Rattle.transducer_core.specs.Merged.{BlockStands}
+use Rattle.transducer_core.specs.Merging.{block_ends, AreBlocksKept}
 use Rattle.transducer_core.proofs.FlatLooks.{kind_at, stands_entry}
 use Rattle.transducer_core.proofs.Keeping.{ends_at, ends_length}
 use Rattle.transducer_core.proofs.Standing.{concat-append, append-none, take_at, stands_at, block_read}
 use Rattle.transducer_core.proofs.Strides.{slice_get-append_right}
 
 -- ---- the lists are read back
-pieces_back : (front : List ℕ) (lists : List (List ℕ)) → pieces (front ++ concat lists) (length front) (ends_of (length front) lists) ≡ lists
+pieces_back : (front : List ℕ) (lists : List (List ℕ)) → pieces (front ++ concat lists) (length front) (block_ends (length front) lists) ≡ lists
 pieces_back front [] = refl
 pieces_back front (x ∷ xs) =
     let more : length (front ++ x) ≡ length front + length x = length-append front x in
     let same : (front ++ x) ++ concat xs ≡ front ++ (x ++ concat xs) = append_assoc front x (concat xs) in
     let tail : pieces (front ++ (x ++ concat xs)) (length front + length x)
-    (ends_of (length front + length x) xs) ≡ xs = rw (more, same) at (pieces_back (front ++ x) xs) in
+    (block_ends (length front + length x) xs) ≡ xs = rw (more, same) at (pieces_back (front ++ x) xs) in
     let head = block_read (front ++ (x ++ concat xs)) (length front) (length front + length x - length front)
     x (record { front = front; rest = concat xs; words_are = refl; start_is = refl }) (omega arith) in
     λ i. head i ∷ tail i
 
-pub pieces_are : (lists : List (List ℕ)) (items ends : List ℕ) → AreKept lists items ends → pieces items 0 ends ≡ lists
+pub pieces_are : (lists : List (List ℕ)) (items ends : List ℕ) → AreBlocksKept lists items ends → pieces items 0 ends ≡ lists
 pieces_are lists items ends h = ap (λ (l : List ℕ). pieces l 0 ends) h.words_are ∙ ap (pieces (concat lists) 0) h.ends_are ∙ pieces_back [] lists
 
 abbrev sides_of : Tables → List (List ℕ)
@@ -47,7 +47,7 @@ half t =
     let both = length-append (map (λ (k : KindTables). k.types) t.kinds) (map (λ (k : KindTables). k.children) t.kinds) in
     omega (arith, types, children, both)
 
-pub types_back : (t : Tables) → IsCoherent t → types_in (lists_of t) ≡ map (λ (k : KindTables). k.types) t.kinds
+pub types_back : (t : Tables) → IsCoherent t → flat_types (lists_of t) ≡ map (λ (k : KindTables). k.types) t.kinds
 types_back t coherent =
     ap (λ (l : List (List ℕ)). take (length l / 2) l) (sides_back t coherent) ∙ ap (λ (n : ℕ). take n (sides_of t)) (half t)
     ∙ take-append_seam (map (λ (k : KindTables). k.types) t.kinds) (map (λ (k : KindTables). k.children) t.kinds)
@@ -59,8 +59,8 @@ children_back t coherent =
 
 -- ---- one list more
 pub joined_more : (front lists : List (List ℕ)) (i : ℕ) (list items ends : List ℕ)
-    → slice_get lists i ≡ Some list → AreKept ((front ++ take i lists) ++ list ∷ []) items ends
-    → AreKept (front ++ take (i + 1) lists) items ends
+    → slice_get lists i ≡ Some list → AreBlocksKept ((front ++ take i lists) ++ list ∷ []) items ends
+    → AreBlocksKept (front ++ take (i + 1) lists) items ends
 joined_more front lists i list items ends at h =
     let same : (front ++ take i lists) ++ list ∷ [] ≡ front
     ++ take (i + 1) lists = append_assoc front (take i lists) (list ∷ [])
@@ -68,7 +68,7 @@ joined_more front lists i list items ends at h =
     rw same at h
 
 -- ---- where a list begins, and its entries
-begins : (lists : List (List ℕ)) (items ends : List ℕ) (i e : ℕ) → AreKept lists items ends
+begins : (lists : List (List ℕ)) (items ends : List ℕ) (i e : ℕ) → AreBlocksKept lists items ends
     → slice_get ends i ≡ Some e → e ≡ length (concat (take (i + 1) lists))
 begins lists items ends i e h at =
     let r = ends_at 0 lists i e (ap (λ (l : List ℕ). slice_get l i) (sym h.ends_are) ∙ at) in
@@ -77,7 +77,7 @@ begins lists items ends i e h at =
     ∙ ap (λ (w : List ℕ). concat (take i lists) ++ w) (append-none r.block) in
     omega (arith, ap (λ (w : List ℕ). length w) joined, length-append (concat (take i lists)) r.block, r.is)
 
-ends_next : (lists : List (List ℕ)) (items ends : List ℕ) (i e : ℕ) (list : List ℕ) → AreKept lists items ends
+ends_next : (lists : List (List ℕ)) (items ends : List ℕ) (i e : ℕ) (list : List ℕ) → AreBlocksKept lists items ends
     → slice_get ends i ≡ Some e → slice_get lists i ≡ Some list
     → e ≡ length (concat (take i lists)) + length list
 ends_next lists items ends i e list h at is =
@@ -86,8 +86,8 @@ ends_next lists items ends i e list h at is =
     let same : r.block ≡ list = cc in
     omega (arith, r.is, ap (λ (w : List ℕ). length w) same)
 
-lists_there : (lists : List (List ℕ)) (items ends : List ℕ) (i : ℕ) (list : List ℕ) → AreKept lists items ends
-    → slice_get lists i ≡ Some list → Stands items (length (concat (take i lists))) list
+lists_there : (lists : List (List ℕ)) (items ends : List ℕ) (i : ℕ) (list : List ℕ) → AreBlocksKept lists items ends
+    → slice_get lists i ≡ Some list → BlockStands items (length (concat (take i lists))) list
 lists_there lists items ends i list h is = rw h.words_are (stands_at lists i list is)
 
 -- ---- where the lists of tables stand
@@ -112,7 +112,7 @@ unfolding type_of
 type_found t k e ty is = is
 
 -- ---- into how many parts an edge is cut
-pub ends_many : (t : Tables) (items ends : List ℕ) → IsCoherent t → AreKept (lists_of t) items ends
+pub ends_many : (t : Tables) (items ends : List ℕ) → IsCoherent t → AreBlocksKept (lists_of t) items ends
     → length ends ≡ 1 + (length t.mates + (length t.kinds + length t.kinds))
 ends_many t items ends coherent h =
     let types = length-map t.kinds (λ (k : KindTables). k.types) in
@@ -121,7 +121,7 @@ ends_many t items ends coherent h =
     let both = length-append t.subs (sides_of t) in
     omega (arith, ap (λ (l : List ℕ). length l) h.ends_are, ends_length 0 (lists_of t), types, children, sides, both, coherent.sub_each)
 
-pub first_end : (t : Tables) (items ends : List ℕ) (first : ℕ) → AreKept (lists_of t) items ends
+pub first_end : (t : Tables) (items ends : List ℕ) (first : ℕ) → AreBlocksKept (lists_of t) items ends
     → slice_get ends 0 ≡ Some first → first ≡ length t.mates
 first_end t items ends first h at = omega (arith, ends_next (lists_of t) items ends 0 first t.mates h at refl)
 
@@ -132,7 +132,7 @@ pub record TypeRead (t : Tables) (items : List ℕ) (k e begin : ℕ) : Type 0 w
   pub count : length (subs_of t ty) ≡ part_count t k e
 
 pub type_read : (t : Tables) (items ends : List ℕ) (k e first begin : ℕ) → IsCoherent t
-    → AreKept (lists_of t) items ends → IsSome (type_of t k e) → first ≡ length t.mates
+    → AreBlocksKept (lists_of t) items ends → IsSome (type_of t k e) → first ≡ length t.mates
     → slice_get ends (first + k) ≡ Some begin
     → TypeRead t items k e begin
 unfolding part_count
@@ -156,7 +156,7 @@ type_read t items ends k e first begin coherent h exists first_is at =
     }
 
 pub parts_between : (t : Tables) (items ends : List ℕ) (ty low high : ℕ) → IsCoherent t
-    → AreKept (lists_of t) items ends → ty < length t.mates → slice_get ends ty ≡ Some low
+    → AreBlocksKept (lists_of t) items ends → ty < length t.mates → slice_get ends ty ≡ Some low
     → slice_get ends (ty + 1) ≡ Some high
     → high ≡ low + length (subs_of t ty)
 parts_between t items ends ty low high coherent h inside from to =
@@ -173,7 +173,7 @@ pub record CountRead (t : Tables) (items ends : List ℕ) (k e : ℕ) : Type 0 w
       → get_or ends (ty + 1) 0 ≡ get_or ends ty 0 + part_count t k e
   pub few : part_count t k e ≤ 8
 
-pub count_read : (t : Tables) (items ends : List ℕ) (k e : ℕ) → IsCoherent t → AreKept (lists_of t) items ends
+pub count_read : (t : Tables) (items ends : List ℕ) (k e : ℕ) → IsCoherent t → AreBlocksKept (lists_of t) items ends
     → IsSome (type_of t k e) → CountRead t items ends k e
 count_read t items ends k e coherent h exists =
     let many = ends_many t items ends coherent h in

@@ -5,29 +5,29 @@ use Rattle.std.proofs.lemmas.Option.{slice_get-get_or}
 use Rattle.std.proofs.Math.Seq.{take-append_seam}
 use Rattle.theory_addresses.specs.Search.{IsAmong}
 use Rattle.theory_addresses.proofs.Ranges.{among-append, place-among}
-use Rattle.transducer_core.specs.Merged.{Stands}
-use Rattle.transducer_core.specs.Merging.{ends_of, AreKept, StandsLast, IsPlaced, ArePlaced, AllStand}
+use Rattle.transducer_core.specs.Merged.{BlockStands}
+use Rattle.transducer_core.specs.Merging.{block_ends, AreBlocksKept, StandsLast, IsBlockPlaced, ArePlaced, AllStand}
 use Rattle.transducer_core.proofs.Once.{once_known, once_fresh}
 use Rattle.transducer_core.proofs.Standing.{concat-append, append-none, take_at, stands_at, room_at, Stands-more, AllStand-more, AllStand-push, block_read}
 
-pub ends_length : (from : ℕ) (kept : List (List ℕ)) → length (ends_of from kept) ≡ length kept
+pub ends_length : (from : ℕ) (kept : List (List ℕ)) → length (block_ends from kept) ≡ length kept
 ends_length from [] = refl
 ends_length from (b ∷ bs) = ap suc (ends_length (from + length b) bs)
 
-ends_push : (from : ℕ) (kept : List (List ℕ)) (b : List ℕ) → ends_of from (kept ++ b ∷ []) ≡ ends_of from kept
+ends_push : (from : ℕ) (kept : List (List ℕ)) (b : List ℕ) → block_ends from (kept ++ b ∷ []) ≡ block_ends from kept
     ++ (from + length (concat kept) + length b) ∷ []
 ends_push from [] b = let e : from + length b ≡ from + 0 + length b = omega arith in ap (λ (n : ℕ). n ∷ []) e
 ends_push from (x ∷ xs) b =
     let e : from + length x + length (concat xs) + length b ≡ from + length (x ++ concat xs) + length b
     = omega (arith, length-append x (concat xs)) in
-    ap (λ (l : List ℕ). (from + length x) ∷ l) (ends_push (from + length x) xs b ∙ ap (λ (n : ℕ). ends_of (from + length x) xs ++ n ∷ []) e)
+    ap (λ (l : List ℕ). (from + length x) ∷ l) (ends_push (from + length x) xs b ∙ ap (λ (n : ℕ). block_ends (from + length x) xs ++ n ∷ []) e)
 
 pub record EndsAt (from : ℕ) (kept : List (List ℕ)) (i e : ℕ) : Type 0 where
   pub block : List ℕ
   pub at : slice_get kept i ≡ Some block
   pub is : e ≡ from + length (concat (take i kept)) + length block
 
-pub ends_at : (from : ℕ) (kept : List (List ℕ)) (i e : ℕ) → slice_get (ends_of from kept) i ≡ Some e → EndsAt from kept i e
+pub ends_at : (from : ℕ) (kept : List (List ℕ)) (i e : ℕ) → slice_get (block_ends from kept) i ≡ Some e → EndsAt from kept i e
 ends_at from [] i e h = absurd cc
 ends_at from (b ∷ bs) zero e h = let same : from + length b ≡ e = cc in record { block = b; at = refl; is = omega (arith, same) }
 ends_at from (b ∷ bs) (suc i) e h =
@@ -53,7 +53,7 @@ pub record Look (kept : List (List ℕ)) (block words : List ℕ) (begin last i 
   pub reads : take (e - begin) (drop begin words) ≡ earlier
   pub last_reads : take (length words - last) (drop last words) ≡ block
 
-pub last_stands : (kept : List (List ℕ)) (block words ends : List ℕ) (last : ℕ) → StandsLast kept block words ends last → Stands words last block
+pub last_stands : (kept : List (List ℕ)) (block words ends : List ℕ) (last : ℕ) → StandsLast kept block words ends last → BlockStands words last block
 last_stands kept block words ends last h = record {
   front = concat kept;
   rest = [];
@@ -68,7 +68,7 @@ pub look : (kept : List (List ℕ)) (block words ends : List ℕ) (begin last i 
 look kept block words ends begin last i e h past at =
     let r = ends_at 0 kept i e (ap (λ (l : List ℕ). slice_get l i) (sym h.ends_are) ∙ at) in
     let room = room_at kept i r.block r.at in
-    let there : Stands words begin r.block = rw (h.words_are, past.begin_is)
+    let there : BlockStands words begin r.block = rw (h.words_are, past.begin_is)
     (Stands-more (concat kept) block (length (concat (take i kept))) r.block
     (stands_at kept i r.block r.at)) in
     let size : length words ≡ length (concat kept) + length block = ap (λ (l : List ℕ). length l) h.words_are ∙ length-append (concat kept) block in
@@ -85,7 +85,7 @@ look kept block words ends begin last i e h past at =
 pub found : (kept : List (List ℕ)) (block words : List ℕ) (begin last i e : ℕ) → IsPast kept block begin i
     → Look kept block words begin last i e → take (e - begin) (drop begin words) ≡ take (length words - last)
     (drop last words)
-    → Stands (concat kept) begin block × IsAmong block kept
+    → BlockStands (concat kept) begin block × IsAmong block kept
 found kept block words begin last i e past l equal =
     let same : l.earlier ≡ block = sym l.reads ∙ equal ∙ l.last_reads in
     let at : slice_get kept i ≡ Some block = l.at ∙ ap Some same in
@@ -110,28 +110,29 @@ past_more kept block words begin last i e past l other =
 
 -- ---- one more
 pub kept_more : (kept : List (List ℕ)) (block words ends longer ends' : List ℕ) (n : ℕ)
-    → AreKept kept words ends → longer ≡ words ++ block → n ≡ length longer → ends' ≡ ends ++ n ∷ []
-    → AreKept (kept ++ block ∷ []) longer ends'
+    → AreBlocksKept kept words ends → longer ≡ words ++ block → n ≡ length longer → ends' ≡ ends ++ n ∷ []
+    → AreBlocksKept (kept ++ block ∷ []) longer ends'
 kept_more kept block words ends longer ends' n h longer_is n_is ends_is =
     let here : longer ≡ concat kept ++ block = longer_is ∙ ap (λ (w : List ℕ). w ++ block) h.words_are in
     let size : n ≡ 0 + length (concat kept) + length block = omega
     (arith, n_is, ap (λ (l : List ℕ). length l) here, length-append (concat kept) block) in
     record {
       words_are = here ∙ ap (λ (w : List ℕ). concat kept ++ w) (sym (append-none block)) ∙ sym (concat-append kept (block ∷ []));
-      ends_are = ends_is ∙ ap (λ (l : List ℕ). l ++ n ∷ []) h.ends_are ∙ ap (λ (m : ℕ). ends_of 0 kept ++ m ∷ []) size ∙ sym (ends_push 0 kept block);
+      ends_are = ends_is ∙ ap (λ (l : List ℕ). l ++ n ∷ []) h.ends_are ∙ ap (λ (m : ℕ). block_ends 0 kept ++ m ∷ []) size
+          ∙ sym (ends_push 0 kept block);
     }
 
 -- ---- the last block, kept or not
 pub kept_known : (kept : List (List ℕ)) (block words ends cut : List ℕ) (last start : ℕ)
-    → StandsLast kept block words ends last → cut ≡ take last words → Stands (concat kept) start block
-    → IsAmong block kept → IsPlaced kept block cut ends start
+    → StandsLast kept block words ends last → cut ≡ take last words → BlockStands (concat kept) start block
+    → IsAmong block kept → IsBlockPlaced kept block cut ends start
 kept_known kept block words ends cut last start h cut_is stands among =
     let front : cut ≡ concat kept = cut_is ∙ ap (take last) h.words_are
     ∙ ap (λ (n : ℕ). take n (concat kept ++ block)) h.last_is ∙ take-append_seam (concat kept) block in
     let none = append-none kept in
     record {
       more = [];
-      kept_are = record { words_are = front ∙ ap concat (sym none); ends_are = h.ends_are ∙ ap (ends_of 0) (sym none) };
+      kept_are = record { words_are = front ∙ ap concat (sym none); ends_are = h.ends_are ∙ ap (block_ends 0) (sym none) };
       stands = rw front stands;
       few = omega arith;
       short = omega arith;
@@ -140,7 +141,7 @@ kept_known kept block words ends cut last start h cut_is stands among =
 
 pub kept_fresh : (kept : List (List ℕ)) (block words ends longer : List ℕ) (last : ℕ)
     → StandsLast kept block words ends last → longer ≡ ends ++ length words ∷ [] → (IsAmong block kept → ⊥)
-    → IsPlaced kept block words longer last
+    → IsBlockPlaced kept block words longer last
 kept_fresh kept block words ends longer last h longer_is fresh =
     let none = append-none block in
     record {
@@ -154,7 +155,7 @@ kept_fresh kept block words ends longer last h longer_is fresh =
     }
 
 -- ---- the blocks of a row
-pub placed_none : (kept : List (List ℕ)) (words ends before : List ℕ) → AreKept kept words ends → ArePlaced kept [] words ends before before
+pub placed_none : (kept : List (List ℕ)) (words ends before : List ℕ) → AreBlocksKept kept words ends → ArePlaced kept [] words ends before before
 placed_none kept words ends before h =
     let none = append-none kept in
     record {
@@ -162,19 +163,19 @@ placed_none kept words ends before h =
       places_are = sym (append-none before);
       stand = tt;
       more = [];
-      kept_are = record { words_are = h.words_are ∙ ap concat (sym none); ends_are = h.ends_are ∙ ap (ends_of 0) (sym none) };
+      kept_are = record { words_are = h.words_are ∙ ap concat (sym none); ends_are = h.ends_are ∙ ap (block_ends 0) (sym none) };
       few = omega arith;
       short = omega arith;
       once = λ all once. rw (append-none all, none) once;
     }
 
 pub words_grown : (kept more : List (List ℕ)) (words ends longer : List ℕ) → words ≡ concat kept
-    → AreKept (kept ++ more) longer ends → longer ≡ words ++ concat more
+    → AreBlocksKept (kept ++ more) longer ends → longer ≡ words ++ concat more
 words_grown kept more words ends longer is h = h.words_are ∙ concat-append kept more ∙ ap (λ (w : List ℕ). w ++ concat more) (sym is)
 
 pub placed_more : (kept row : List (List ℕ)) (block words ends before after longer ends' after' : List ℕ)
     (start : ℕ) → length block ≤ 16 → (p : ArePlaced kept row words ends before after)
-    → IsPlaced (kept ++ p.more) block longer ends' start → after' ≡ after ++ start ∷ []
+    → IsBlockPlaced (kept ++ p.more) block longer ends' start → after' ≡ after ++ start ∷ []
     → ArePlaced kept (row ++ block ∷ []) longer ends' before after'
 placed_more kept row block words ends before after longer ends' after' start size p one after_is =
     let both = append_assoc kept p.more one.more in
@@ -185,7 +186,7 @@ placed_more kept row block words ends before after longer ends' after' start siz
       places_are = after_is ∙ ap (λ (l : List ℕ). l ++ start ∷ []) p.places_are ∙ append_assoc before p.places (start ∷ []);
       stand = AllStand-push longer p.places row start block stand one.stands;
       more = p.more ++ one.more;
-      kept_are = record { words_are = one.kept_are.words_are ∙ ap concat both; ends_are = one.kept_are.ends_are ∙ ap (ends_of 0) both };
+      kept_are = record { words_are = one.kept_are.words_are ∙ ap concat both; ends_are = one.kept_are.ends_are ∙ ap (block_ends 0) both };
       few = omega (arith, length-append p.more one.more, length-append row (block ∷ []), p.few, one.few);
       short = omega (
         arith,
@@ -202,7 +203,7 @@ placed_more kept row block words ends before after longer ends' after' start siz
 
 -- a block that is written behind those that are kept
 pub last_of_row : (kept : List (List ℕ)) (block words longer ends : List ℕ) (last : ℕ)
-    → AreKept kept words ends → longer ≡ words ++ block → last ≡ length words
+    → AreBlocksKept kept words ends → longer ≡ words ++ block → last ≡ length words
     → StandsLast kept block longer ends last
 last_of_row kept block words longer ends last h longer_is last_is = record {
   words_are = longer_is ∙ ap (λ (w : List ℕ). w ++ block) h.words_are;
@@ -212,7 +213,7 @@ last_of_row kept block words longer ends last h longer_is last_is = record {
 
 -- the words of a row are few
 pub words_short : (kept row : List (List ℕ)) (words ends longer ends' before after : List ℕ)
-    → AreKept kept words ends → ArePlaced kept row longer ends' before after
+    → AreBlocksKept kept words ends → ArePlaced kept row longer ends' before after
     → length longer ≤ length words + 16 * length row
 words_short kept row words ends longer ends' before after h p =
     omega (

@@ -6,7 +6,7 @@ use Rattle.std.proofs.Math.Seq.{drop-append_seam, take-append_seam}
 use Rattle.std.specs.List.{slice_get, concat, flat_map, AllByRecursion}
 use Rattle.theory_addresses.proofs.Lists.{AllByRecursion-among}
 use Rattle.theory_addresses.proofs.Ranges.{place-among}
-use Rattle.transducer_core.specs.Merged.{Stands, IsMerged, AreSpread}
+use Rattle.transducer_core.specs.Merged.{BlockStands, IsMerged, AreSpread}
 use Rattle.transducer_core.specs.Once.{AreOnce}
 use Rattle.transducer_core.specs.Merging.{AllStand}
 
@@ -29,7 +29,7 @@ pub take_at : {A : Type 0} (l : List A) (i : ℕ) (b : A) → slice_get l i ≡ 
 take_at l i b e = rw (get_or_from_slice_get l i b b e) at (take_more l i b (slice_get_within l i b e))
 
 -- a block of those in a row
-pub stands_at : (l : List (List ℕ)) (i : ℕ) (b : List ℕ) → slice_get l i ≡ Some b → Stands (concat l) (length (concat (take i l))) b
+pub stands_at : (l : List (List ℕ)) (i : ℕ) (b : List ℕ) → slice_get l i ≡ Some b → BlockStands (concat l) (length (concat (take i l))) b
 stands_at [] i b e = absurd cc
 stands_at (x ∷ l) zero b e = let same : x ≡ b = cc in record { front = []; rest = concat l; words_are = rw same refl; start_is = refl }
 stands_at (x ∷ l) (suc i) b e =
@@ -46,11 +46,11 @@ room_at l i b e =
     let r = stands_at l i b e in
     omega (arith, r.start_is, ap length r.words_are, length-append r.front (b ++ r.rest), length-append b r.rest)
 
-pub block_read : (words : List ℕ) (s n : ℕ) (block : List ℕ) → Stands words s block → n ≡ length block → take n (drop s words) ≡ block
+pub block_read : (words : List ℕ) (s n : ℕ) (block : List ℕ) → BlockStands words s block → n ≡ length block → take n (drop s words) ≡ block
 block_read words s n block h size = rw (h.words_are, h.start_is, size, drop-append_seam h.front (block ++ h.rest)) (take-append_seam block h.rest)
 
 -- more behind them change nothing
-pub Stands-more : (words more : List ℕ) (s : ℕ) (b : List ℕ) → Stands words s b → Stands (words ++ more) s b
+pub Stands-more : (words more : List ℕ) (s : ℕ) (b : List ℕ) → BlockStands words s b → BlockStands (words ++ more) s b
 Stands-more words more s b h = record {
   front = h.front;
   rest = h.rest ++ more;
@@ -65,14 +65,14 @@ AllStand-more words more (s ∷ ss) [] h = elim h [ ]
 AllStand-more words more (s ∷ ss) (b ∷ bs) h = (Stands-more words more s b h.0, AllStand-more words more ss bs h.1)
 
 pub AllStand-push : (words ss : List ℕ) (bs : List (List ℕ)) (s : ℕ) (b : List ℕ) → AllStand words ss bs
-    → Stands words s b → AllStand words (ss ++ s ∷ []) (bs ++ b ∷ [])
+    → BlockStands words s b → AllStand words (ss ++ s ∷ []) (bs ++ b ∷ [])
 AllStand-push words [] [] s b h here = (here, tt)
 AllStand-push words [] (c ∷ bs) s b h here = elim h [ ]
 AllStand-push words (r ∷ ss) [] s b h here = elim h [ ]
 AllStand-push words (r ∷ ss) (c ∷ bs) s b h here = (h.0, AllStand-push words ss bs s b h.1 here)
 
 pub AllStand-at : (words ss : List ℕ) (bs : List (List ℕ)) (c : ℕ) (b : List ℕ) → AllStand words ss bs
-    → slice_get bs c ≡ Some b → (s : ℕ) × (slice_get ss c ≡ Some s) × Stands words s b
+    → slice_get bs c ≡ Some b → (s : ℕ) × (slice_get ss c ≡ Some s) × BlockStands words s b
 AllStand-at words [] [] c b h e = absurd cc
 AllStand-at words [] (d ∷ bs) c b h e = elim h [ ]
 AllStand-at words (s ∷ ss) [] c b h e = elim h [ ]

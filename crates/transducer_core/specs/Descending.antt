@@ -15,9 +15,11 @@ pub record StartsDown (t : Tables) (a : Address) (e : ℕ) (m : Meeting) (parts 
   pub meets : MeetsAt t a e m parts
 
 -- one level down: the word that is looked up, the digit that has its child, and the side of that child
-pub record GoesDown (starts words kinds : List ℕ) (side : Side) (part : ℕ) (digit : Step) (below : Side) : Type 0 where
+pub record GoesDown (starts words kinds : List ℕ) (side : Side) (part : ℕ) (digit : Step)
+    (below : Side) : Type 0 where
   pub word : ℕ
   pub entry : HasEntry starts words (side.row + side.edge) part word
-  pub digit_is : digit ≡ record { child = (side.row + word % 256) % 256; parent = (side.row + word % 256) / 256 }
+  pub digit_is : digit ≡ record
+      { child = (side.row + word % 256) % 256; parent = (side.row + word % 256) / 256 }
   pub kind_is : slice_get kinds (side.row + word % 256) ≡ Some (below.row + 255)
   pub edge_is : below.edge ≡ word / 256

@@ -8,7 +8,8 @@ use Rattle.transducer_core.specs.Words.{contact_of_word, part_of_word}
 -- the lists of tables: the mates, the subdivision of each type, the types of the edges of each kind, and the
 -- kinds of its children
 abbrev pub lists_of : Tables → List (List ℕ)
-lists_of t = t.mates ∷ (t.subs ++ (map (λ (k : KindTables). k.types) t.kinds ++ map (λ (k : KindTables). k.children) t.kinds))
+lists_of t = t.mates ∷
+    (t.subs ++ (map (λ (k : KindTables). k.types) t.kinds ++ map (λ (k : KindTables). k.children) t.kinds))
 
 -- and back from such lists: the first has the mates
 abbrev pub mates_in : List (List ℕ) → List ℕ
@@ -22,8 +23,8 @@ subs_in lists = take (length (mates_in lists)) (drop 1 lists)
 abbrev pub sides_in : List (List ℕ) → List (List ℕ)
 sides_in lists = drop (length (mates_in lists)) (drop 1 lists)
 
-abbrev pub types_in : List (List ℕ) → List (List ℕ)
-types_in lists = take (length (sides_in lists) / 2) (sides_in lists)
+abbrev pub flat_types : List (List ℕ) → List (List ℕ)
+flat_types lists = take (length (sides_in lists) / 2) (sides_in lists)
 
 abbrev pub children_in : List (List ℕ) → List (List ℕ)
 children_in lists = drop (length (sides_in lists) / 2) (sides_in lists)
@@ -49,13 +50,15 @@ pub record Lists : Type 0 where
 abbrev pub flat_contacts : Lists → ℕ → ℕ → List Contact
 flat_contacts f k c =
     let kind = get_or (get_or f.children k []) c 0 in
-    map contact_of_word (take (length (get_or f.types kind [])) (drop (get_or f.contact_starts (256 * k + c) 0) f.contact_words))
+    map contact_of_word (take (length (get_or f.types kind []))
+    (drop (get_or f.contact_starts (256 * k + c) 0) f.contact_words))
 
 -- the part block of an edge, which has a part for each type of the subdivision, in reverse order
 abbrev pub flat_parts : Lists → ℕ → ℕ → List ChildEdge
 flat_parts f k e =
     let ty = get_or (get_or f.types k []) e 0 in
-    reverse (map part_of_word (take (length (get_or f.subs ty [])) (drop (get_or f.part_starts (256 * k + e) 0) f.part_words)))
+    reverse (map part_of_word
+    (take (length (get_or f.subs ty [])) (drop (get_or f.part_starts (256 * k + e) 0) f.part_words)))
 
 abbrev pub flat_kind : Lists → ℕ → KindTables
 flat_kind f k = record {

@@ -4,7 +4,7 @@ use Rattle.std.specs.List.{flat_map, concat}
 use Rattle.transducer_core.specs.Once.{AreOnce}
 
 -- the list has the block, from this place on
-pub record Stands (words : List ℕ) (start : ℕ) (block : List ℕ) : Type 0 where
+pub record BlockStands (words : List ℕ) (start : ℕ) (block : List ℕ) : Type 0 where
   pub front : List ℕ
   pub rest : List ℕ
   pub words_are : words ≡ front ++ (block ++ rest)
@@ -21,11 +21,12 @@ pub record IsOnceEach (blocks : List (List ℕ)) (words : List ℕ) (count : ℕ
 pub record BeginsAt (words starts : List ℕ) (k c : ℕ) (block : List ℕ) : Type 0 where
   pub start : ℕ
   pub start_at : slice_get starts (256 * k + c) ≡ Some start
-  pub stands : Stands words start block
+  pub stands : BlockStands words start block
 
 -- so do all
 abbrev pub AllBegin : List (List (List ℕ)) → List ℕ → List ℕ → Type 0
-AllBegin rows starts words = (k c : ℕ) (row : List (List ℕ)) (block : List ℕ) → slice_get rows k ≡ Some row → slice_get row c ≡ Some block → BeginsAt words starts k c block
+AllBegin rows starts words = (k c : ℕ) (row : List (List ℕ)) (block : List ℕ) → slice_get rows k ≡ Some row
+    → slice_get row c ≡ Some block → BeginsAt words starts k c block
 
 -- and equal ones are kept once
 pub record IsMerged (rows : List (List (List ℕ))) (starts words : List ℕ) (count : ℕ) : Type 0 where
@@ -34,7 +35,8 @@ pub record IsMerged (rows : List (List (List ℕ))) (starts words : List ℕ) (c
 
 -- number c of row k is at 256 k + c in the list
 abbrev pub AreSpread : {A : Type 0} → List (List A) → List A → Type 0
-AreSpread {A} rows flat = (k c : ℕ) (row : List A) (x : A) → slice_get rows k ≡ Some row → slice_get row c ≡ Some x → slice_get flat (256 * k + c) ≡ Some x
+AreSpread {A} rows flat = (k c : ℕ) (row : List A) (x : A) → slice_get rows k ≡ Some row
+    → slice_get row c ≡ Some x → slice_get flat (256 * k + c) ≡ Some x
 
 -- the last cell of a row
 abbrev pub last_cell : ℕ → ℕ

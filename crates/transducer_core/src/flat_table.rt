@@ -48,7 +48,8 @@ impl Model for FlatTable {
 
     ghost view = { λ f. flat_tables (lists_in f.lists f.contacts f.parts) };
 
-    ghost invariant = { λ f. IsFlat (flat_tables (lists_in f.lists f.contacts f.parts)) f.lists f.child_kinds f.contacts f.parts };
+    ghost invariant = { λ f. IsFlat (flat_tables (lists_in f.lists f.contacts f.parts)) f.lists f.child_kinds
+        f.contacts f.parts };
 }
 
 impl FlatTable {

@@ -1,7 +1,7 @@
 //! The lists of contact tables, one after another.
 ghost use Rattle.std.specs.Prelude.{◌≡◌, ℕ, List, [], ◌∷◌, ◌++◌, OnOk, IfOk};
 ghost use Rattle.transducer_core.specs.Flat.{lists_of};
-ghost use Rattle.transducer_core.specs.Merging.{AreKept};
+ghost use Rattle.transducer_core.specs.Merging.{AreBlocksKept};
 
 use edge_tables::tables::Tables;
 use std::alloc::Global;
@@ -17,8 +17,8 @@ pub(crate) struct Joined {
 /// Appends a list to the others.
 fn add(joined: &mut Joined, list: &Vec<u8>) -> Result<(), NoMemory>
     ensures { OnOk result ((lists : List (List ℕ))
-        → AreKept lists joined.old.items.items joined.old.ends.items
-        → AreKept (lists ++ list.now.items ∷ []) joined.new.items.items joined.new.ends.items) }
+        → AreBlocksKept lists joined.old.items.items joined.old.ends.items
+        → AreBlocksKept (lists ++ list.now.items ∷ []) joined.new.items.items joined.new.ends.items) }
 {
     joined.items.extend_from_slice(list)?;
     joined.ends.push(joined.items.len())?;
@@ -28,7 +28,8 @@ fn add(joined: &mut Joined, list: &Vec<u8>) -> Result<(), NoMemory>
 /// Joins four sorts of lists, one after another. They are the mates, the types into which each type is cut,
 /// the types of the edges of each kind, and the kinds of the children of each kind.
 pub(crate) fn join(alloc: Global, tables: &Tables) -> Result<Joined, NoMemory>
-    ensures { IfOk result (λ joined. AreKept (lists_of tables.now) joined.items.items joined.ends.items) }
+    ensures { IfOk result (λ joined. AreBlocksKept (lists_of tables.now) joined.items.items
+        joined.ends.items) }
 {
     let mut joined = Joined {
         items: Vec::with_capacity(alloc, 64)?,

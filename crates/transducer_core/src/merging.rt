@@ -2,8 +2,8 @@
 ghost use Rattle.std.specs.Prelude.{◌≡◌, ◌↔◌, ◌^◌, ◌<◌, ◌≤◌, ℕ, true, List, length, map, OnOk, IfOk, IfSome, IfNone};
 ghost use Rattle.std.specs.List.{concat};
 ghost use Rattle.theory_addresses.specs.Search.{IsAmong};
-ghost use Rattle.transducer_core.specs.Merged.{Stands, IsMerged};
-ghost use Rattle.transducer_core.specs.Merging.{AreKept, StandsLast, IsPlaced, ArePlaced, AreShort, AreSmall};
+ghost use Rattle.transducer_core.specs.Merged.{BlockStands, IsMerged};
+ghost use Rattle.transducer_core.specs.Merging.{AreBlocksKept, StandsLast, IsBlockPlaced, ArePlaced, AreShort, AreSmall};
 ghost use Rattle.transducer_core.specs.RowBlocks.{blocks_of};
 
 use crate::blocks::Blocks;
@@ -49,7 +49,7 @@ fn find(words: &[u32], ends: &[u16], last: usize) -> Option<u16>
         × StandsLast kept block words.now ends.now last }
     requires room { length words.now < 2 ^ 16 }
     ensures stands { IfSome result (λ start. (kept : List (List ℕ)) (block : List ℕ)
-        → StandsLast kept block words.now ends.now last → Stands (concat kept) start block
+        → StandsLast kept block words.now ends.now last → BlockStands (concat kept) start block
         × IsAmong block kept) }
     ensures none { IfNone result ((kept : List (List ℕ)) (block : List ℕ)
         → StandsLast kept block words.now ends.now last → IsAmong block kept → ⊥) }
@@ -79,7 +79,7 @@ fn keep(kept: &mut Kept, last: usize) -> Result<u16, NoMemory>
     requires room { length kept.old.words.items < 2 ^ 16 }
     ensures { IfOk result (λ start. (blocks : List (List ℕ)) (block : List ℕ)
         → StandsLast blocks block kept.old.words.items kept.old.ends.items last
-        → IsPlaced blocks block kept.new.words.items kept.new.ends.items start) }
+        → IsBlockPlaced blocks block kept.new.words.items kept.new.ends.items start) }
 {
     match find(kept.words.as_slice(), kept.ends.as_slice(), last) {
         Some(start) => {
@@ -103,8 +103,9 @@ fn place_row(
     requires few { length (blocks_of which row.now) ≤ 16 }
     requires short { AreShort (blocks_of which row.now) }
     requires room { length kept.old.words.items ≤ 2 ^ 15 }
-    requires kept { (blocks : List (List ℕ)) × AreKept blocks kept.old.words.items kept.old.ends.items }
-    ensures { OnOk result ((blocks : List (List ℕ)) → AreKept blocks kept.old.words.items kept.old.ends.items
+    requires kept { (blocks : List (List ℕ)) × AreBlocksKept blocks kept.old.words.items kept.old.ends.items }
+    ensures { OnOk result
+        ((blocks : List (List ℕ)) → AreBlocksKept blocks kept.old.words.items kept.old.ends.items
         → ArePlaced blocks (blocks_of which row.now) kept.new.words.items kept.new.ends.items
         starts.old.items starts.new.items) }
 {

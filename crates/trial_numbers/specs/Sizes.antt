@@ -9,4 +9,5 @@ is_at_most n x = nat_le (nat_abs x) n
 
 -- each coefficient of the point is
 abbrev pub is_within : ℕ → Point → Bool
-is_within n p = is_at_most n (coefficient p 0) && (is_at_most n (coefficient p 1) && (is_at_most n (coefficient p 2) && is_at_most n (coefficient p 3)))
+is_within n p = is_at_most n (coefficient p 0)
+    && (is_at_most n (coefficient p 1) && (is_at_most n (coefficient p 2) && is_at_most n (coefficient p 3)))

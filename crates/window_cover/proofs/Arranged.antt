@@ -18,7 +18,7 @@ use Rattle.theory_walks.specs.Frames.{FrameValue}
 use Rattle.lazy_walk.specs.Standing.{Stands}
 use Rattle.tile_place.specs.declared.order_key.OrderKey.{OrderKey}
 use Rattle.window_cover.specs.Arranged.{AreArranged}
-use Rattle.window_cover.specs.Checked.{IsChecked}
+use Rattle.window_cover.specs.Checked.{IsCheckedRule}
 use Rattle.window_cover.specs.Covered.{none, placed_as, tiles_of, AreCovered}
 use Rattle.window_cover.specs.Found.{Found, CoverValue}
 use Rattle.window_cover.specs.InOrder.{AreInOrder, AreSorted, numbers_placed}
@@ -120,7 +120,7 @@ module _ (f : FrameValue) (c : CoverValue) (found : List Found) (numbers : List 
   arranged-distinct d = in-order f ks tiles all-keyed are.ordered.sorted d
 
   -- where the state is right
-  module _ (laws : (m : Rule) → IsChecked m → HasLaws m) (r : Rule) (checked : IsChecked r) (right : IsRight (tiling_of r) f c) where
+  module _ (laws : (m : Rule) → IsCheckedRule m → HasLaws m) (r : Rule) (checked : IsCheckedRule r) (right : IsRight (tiling_of r) f c) where
     work : IsWorking (tiling_of r) f (working c)
     work = works (tiling_of r) (laws r checked).open_test f c right
 
@@ -160,7 +160,7 @@ module _ (f : FrameValue) (c : CoverValue) (can : All (CanBeLifted f) c.found) (
   are-distinct = subst (λ (ts : List PlacedTile). AreDistinct (map numbers_placed ts) → AreInOrder ts) (sym a.are)
       (arranged-distinct f c c.found a.numbers f.digits own)
 
-  module _ (laws : (m : Rule) → IsChecked m → HasLaws m) (r : Rule) (checked : IsChecked r) (right : IsRight (tiling_of r) f c) where
+  module _ (laws : (m : Rule) → IsCheckedRule m → HasLaws m) (r : Rule) (checked : IsCheckedRule r) (right : IsRight (tiling_of r) f c) where
     pub are-drawn : c.border ≡ [] → AreDrawn (tiling_of r) f c.window (map (placed_in r.order) tiles)
     are-drawn closed = subst (λ ts. AreDrawn (tiling_of r) f c.window (map (placed_in r.order) ts)) (sym a.are)
         (arranged-drawn f c c.found a.numbers f.digits own laws r checked right closed)

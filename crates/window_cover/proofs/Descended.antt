@@ -61,12 +61,12 @@ use Rattle.theory_descents.proofs.Parts.{IsBelow, below-tile}
 use Rattle.window_descent.specs.Climbing.{IsClimbedTo}
 use Rattle.window_cover.specs.Answered.{drawn_in, IsFoundBelow, IsAnswered}
 use Rattle.window_cover.specs.Lifted.{CanBeLifted}
-use Rattle.window_cover.specs.Limits.{IsWithinLimits}
+use Rattle.window_cover.specs.Limits.{IsCoverWithinLimits}
 use Rattle.window_cover.specs.Covered.{placed_as}
 use Rattle.window_cover.specs.Descending.{tile_in, IsKeptTile}
 use Rattle.window_cover.specs.Found.{Found, address_found, CoverValue}
 use Rattle.window_cover.specs.InOrder.{AreInOrder, numbers_placed}
-use Rattle.window_cover.specs.Windows.{IsWindow, TileOf, box_of, AreDrawn, CoverWindow, IsLeastEnough}
+use Rattle.window_cover.specs.Windows.{IsWindow, TileOf, box_of, AreDrawn, CoverWindow, IsLeastForWindow}
 use Rattle.window_cover.proofs.Distinct.{distinct-by}
 use Rattle.window_cover.proofs.Permuted.{map-on, distinct-permuted}
 use Rattle.window_cover.proofs.Finished.{quad_at}
@@ -258,7 +258,7 @@ module _ (m : Rule) (settled : IsSettled m) (fits : StillFits (children (tiling_
   same : full (tiling_of m) g ≡ full (tiling_of m) f
   same = full-later (tiling_of m) f g grows
 
-  least : IsLeastEnough (tiling_of m) f w (length g.digits)
+  least : IsLeastForWindow (tiling_of m) f w (length g.digits)
   least = law.climb_law (points_of m.order) (laws_of m.order) (divisors_of m.order) (its_rule m settled) (full (tiling_of m) f)
       (box_of (tiling_of m) w) (length f.digits) (length g.digits) first
 
@@ -271,7 +271,7 @@ module _ (m : Rule) (settled : IsSettled m) (fits : StillFits (children (tiling_
   few = subst (λ k. k ≤ most_tiles) (sym (length-map c.found (tile_in m.order))
       ∙ ap (λ (ts : List (TileOf (tiling_of m))). length ts) found.found) found.few
 
-  within : first_refused_outward (tiling_of m) f (point_in m.order w.centre) ≡ None → IsWithinLimits (tiling_of m) f w
+  within : first_refused_outward (tiling_of m) f (point_in m.order w.centre) ≡ None → IsCoverWithinLimits (tiling_of m) f w
   within centre = record {
     centre_found = centre;
     drawn_within = record {

@@ -20,7 +20,7 @@ use Rattle.window_cover.specs.Beyond.{IsNotBeyondEnough}
 use Rattle.window_cover.specs.Keys.{keys_from}
 use Rattle.theory_windows.specs.Limits.{most_tiles}
 use Rattle.window_cover.specs.Right.{growing}
-use Rattle.window_cover.specs.Windows.{TileOf, box_of, IsLeastEnough}
+use Rattle.window_cover.specs.Windows.{TileOf, box_of, IsLeastForWindow}
 use Rattle.window_cover.specs.Working.{Working, IsWorking}
 use Rattle.window_cover.proofs.Finished.{HasLaws, settled, wide-deep, wide-named, answer, window-within}
 use Rattle.window_cover.proofs.Searches.{beyond-later}
@@ -29,7 +29,7 @@ use Rattle.window_cover.proofs.Shuffled.{shuffled}
 -- where a depth is no deeper than the least enough one, if there is one, it isn't beyond any enough one
 module _ (m : Rule) (laws : HasLaws m) (least_law : LeastLaw (points_of m.order)) (old now : FrameValue)
     (grows : GrowsTo (tiling_of m) old now) (w : Window) (s : Working)
-    (right : IsWorking (tiling_of m) now s) (shallow : (n : ℕ) → IsLeastEnough (tiling_of m) old w n
+    (right : IsWorking (tiling_of m) now s) (shallow : (n : ℕ) → IsLeastForWindow (tiling_of m) old w n
     → length now.digits ≤ n) (deep : length old.digits ≤ 64) where
   abbrev Enough : ℕ → Type 0
   Enough = IsEnough (points_of m.order).real (TileOf (tiling_of m)) (growing (tiling_of m) old) (box_of (tiling_of m) w)

@@ -43,7 +43,7 @@ use Rattle.theory_windows.specs.AnyOrder.{HaveSameMembers}
 use Rattle.theory_windows.specs.Distinct.{AreDistinct}
 use Rattle.theory_windows.specs.FrameCover.{IsWindowOn, IsFrameAnswer, FrameFinishLaw, FrameEndsLaw}
 use Rattle.theory_windows.specs.FrameLaws.{FramePatchLaw}
-use Rattle.theory_windows.specs.FramePatch.{frame_patch, lifted_tile}
+use Rattle.theory_windows.specs.FramePatch.{frame_patch, tile_of_ancestor}
 use Rattle.theory_windows.specs.FrameWindow.{AreAllThatMeet, IsWindowWithin}
 use Rattle.theory_windows.specs.Patch.{Covers}
 use Rattle.theory_windows.specs.Laws.{OpenTestLaw, OutlineLaw}
@@ -51,7 +51,7 @@ use Rattle.theory_windows.proofs.Members.{same_whole}
 use Rattle.tile_place.specs.declared.order_key.OrderKey.{OrderKey}
 use Rattle.window_cover.specs.Beyond.{IsNotBeyondEnough}
 use Rattle.theory_windows.specs.Limits.{most_tiles}
-use Rattle.window_cover.specs.Checked.{IsChecked}
+use Rattle.window_cover.specs.Checked.{IsCheckedRule}
 use Rattle.window_cover.specs.Found.{Found, address_found}
 use Rattle.window_cover.specs.Lifted.{IsLifted}
 use Rattle.window_cover.specs.Right.{name_of, IsFound}
@@ -92,7 +92,7 @@ quad_at ns = record { a0 = get_or ns 0 (pos 0); a1 = get_or ns 1 (pos 0); a2 = g
 
 -- the laws that are used, over the points of an order
 pub record HasLaws (m : Rule) : Type 0 where
-  pub checked : IsChecked m
+  pub checked : IsCheckedRule m
   pub still_fits : StillFits (children (tiling_of m))
   pub points : PointsLaw m.order
   pub patch : FramePatchLaw (points_of m.order)
@@ -101,7 +101,7 @@ pub record HasLaws (m : Rule) : Type 0 where
   pub finish : FrameFinishLaw (points_of m.order)
 
 -- what the laws and the rule bring
-pub laws_of : (m : Rule) → IsChecked m → ((o : Order) → PointsLaw o)
+pub laws_of : (m : Rule) → IsCheckedRule m → ((o : Order) → PointsLaw o)
     → ((o : Order) → FramePatchLaw (points_of o)) → ((o : Order) → OutlineLaw (points_of o))
     → ((o : Order) → OpenTestLaw (points_of o)) → ((o : Order) → FrameFinishLaw (points_of o))
     → ((kinds : List (List ℕ)) (base : Address) (start n : ℕ) → AreUsable kinds → Fits kinds base
@@ -172,7 +172,7 @@ module _ (m : Rule) (laws : HasLaws m) (f : FrameValue) (c : Working) (right : I
     no_deeper : depth (address_found x) ≤ length f.digits
     no_deeper = its.of_frame.no_deeper
 
-    at_wide : lifted_tile wide (at_frame x) ≡ name x
+    at_wide : tile_of_ancestor wide (at_frame x) ≡ name x
     at_wide = λ j. record { address = twice j; motion = motion_in m.order x.motion }
       where
         twice : lifted_in wide (lifted_in (whole f) (address_found x)) ≡ lifted_in wide (address_found x)
@@ -249,18 +249,19 @@ module _ (m : Rule) (laws : HasLaws m) (f : FrameValue) (c : Working) (right : I
     abbrev placed : List (TileOf t)
     placed = map at_frame ys
 
-    named : map (lifted_tile wide) placed ≡ map name ys
-    named = map-map (lifted_tile wide) at_frame ys ∙ map-same (λ x. lifted_tile wide (at_frame x)) name ys (λ x i. at_wide x (from-found x i))
+    named : map (tile_of_ancestor wide) placed ≡ map name ys
+    named = map-map (tile_of_ancestor wide) at_frame ys
+        ∙ map-same (λ x. tile_of_ancestor wide (at_frame x)) name ys (λ x i. at_wide x (from-found x i))
 
     distinct : AreDistinct placed
     distinct = distinct-by name at_frame ys
-        (λ x y i j e. sym (at_wide x (from-found x i)) ∙ ap (lifted_tile wide) e ∙ at_wide y (from-found y j))
+        (λ x y i j e. sym (at_wide x (from-found x i)) ∙ ap (tile_of_ancestor wide) e ∙ at_wide y (from-found y j))
         (keyed-distinct c.found name right.state.distinct ks mixed.keys mixed.numbers)
 
     deep : AllByRecursion (λ (u : TileOf t). depth u.address ≡ length f.digits) placed
     deep = AllByRecursion-map _ at_frame ys (AllByRecursion-from _ ys (λ x i. (own x (from-found x i)).same_depth))
 
-    members : HaveSameMembers (map name c.found) (map (lifted_tile wide) placed)
+    members : HaveSameMembers (map name c.found) (map (tile_of_ancestor wide) placed)
     members = subst (HaveSameMembers (map name c.found)) (sym named)
         (permuted-members (map name c.found) (map name ys) (IsPermutation-map name c.found ys mixed.tiles))
 

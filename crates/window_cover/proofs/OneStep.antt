@@ -21,15 +21,15 @@ use Rattle.window_cover.specs.declared.cover_fault.CoverFault.TheVariants.{NoMem
 use Rattle.window_cover.specs.declared.open_edge.OpenEdge.{OpenEdge}
 use Rattle.window_cover.specs.Admitted.{IsAdmitted, IsNotAdmitted, found_as}
 use Rattle.window_cover.specs.Border.{first_waiting}
-use Rattle.window_cover.specs.Causes.{IsDepthLimit, HasCause}
+use Rattle.window_cover.specs.Causes.{IsCoverDepthLimit, HasCoverCause}
 use Rattle.window_cover.specs.Found.{address_found, CoverValue, first_of}
-use Rattle.window_cover.specs.Limits.{IsWithinLimits}
+use Rattle.window_cover.specs.Limits.{IsCoverWithinLimits}
 use Rattle.window_cover.specs.NewEdges.{AreNew}
 use Rattle.window_cover.specs.Packed.{packed, unpacked}
 use Rattle.window_cover.specs.Right.{IsFound, IsRight}
 use Rattle.window_cover.specs.SearchLaws.{HasSearchLaws}
 use Rattle.window_cover.specs.Stepping.{HasStepped, IsFirstOnBoundary}
-use Rattle.window_cover.specs.Windows.{IsLeastEnough}
+use Rattle.window_cover.specs.Windows.{IsLeastForWindow}
 use Rattle.window_cover.specs.Working.{working, IsWorking}
 use Rattle.window_cover.proofs.FirstEdge.{edge-there}
 use Rattle.window_cover.proofs.Names.{its_found}
@@ -83,15 +83,15 @@ module _ {m : Rule} {f : FrameValue} {c : CoverValue} {first : OpenEdge} {from :
     on_found : IsBoundaryEdge t (lifted_in (full t f) (address_found (found_as from))) first.edge
     on_found = subst (λ a. IsBoundaryEdge t (lifted_in (full t f) a) first.edge) (sym named) on
 
-    pub none_enough : (f0 : FrameValue) (n : ℕ) → GrowsTo t f0 f → ¬ IsLeastEnough t f0 c.window n
+    pub none_enough : (f0 : FrameValue) (n : ℕ) → GrowsTo t f0 f → ¬ IsLeastForWindow t f0 c.window n
     none_enough = stops.not_enough m s.brings.settled s.brings.fits s.brings.laws f (working c) work first waits (found_as from) s.at on_found
 
-    pub not_within : (f0 : FrameValue) → GrowsTo t f0 f → ¬ IsWithinLimits t f0 c.window
+    pub not_within : (f0 : FrameValue) → GrowsTo t f0 f → ¬ IsCoverWithinLimits t f0 c.window
     not_within = stops.not_within m s.brings.settled s.brings.fits s.brings.laws f (working c) work first waits (found_as from) s.at on_found
 
     pub at_limit : (g : FrameValue) → GrowsTo t f g → length g.digits ≡ 64 → (addr : program.Address)
         → address_of addr ≡ lifted_at t f (address_of from.addr) 64 → (edge : ℕ) → edge ≡ first.edge
-        → IsDepthLimit t g c.window addr edge
+        → IsCoverDepthLimit t g c.window addr edge
     at_limit g h deepest addr is edge same =
         stops.depth_limit m s.brings.settled s.brings.fits s.brings.laws f (working c) work first waits
         (found_as from) s.at on_found g h deepest addr (is ∙ ap (lifted_in (full t f)) (sym named)) edge same
@@ -106,7 +106,7 @@ module _ {m : Rule} {f : FrameValue} {c : CoverValue} {first : OpenEdge} {from :
     kind_exists = next.kind_exists m s.brings.settled s.brings.fits s.brings.laws f g h (working c) work first waits
         (found_as from) s.at tile back over
 
-    pub not_beyond : (f0 : FrameValue) (n : ℕ) → GrowsTo t f0 f → IsLeastEnough t f0 c.window n → length f.digits ≤ n → length g.digits ≤ n
+    pub not_beyond : (f0 : FrameValue) (n : ℕ) → GrowsTo t f0 f → IsLeastForWindow t f0 c.window n → length f.digits ≤ n → length g.digits ≤ n
     not_beyond = not_beyond_next m s.brings.settled s.brings.fits s.brings.laws f g h (working c) work first waits
         (found_as from) s.at tile back over
 
@@ -125,12 +125,12 @@ module _ {m : Rule} {f : FrameValue} {c : CoverValue} {first : OpenEdge} {from :
           own_why : IfErr r (IsNotAdmitted t (working c) tile)
           own_why = subst (λ y. IfErr r (IsNotAdmitted t (working y) tile)) same why
 
-          pub within : (f0 : FrameValue) → GrowsTo t f0 f → IsWithinLimits t f0 c.window → (r ≡ Err NoMemory) ⊎ IsOk r
+          pub within : (f0 : FrameValue) → GrowsTo t f0 f → IsCoverWithinLimits t f0 c.window → (r ≡ Err NoMemory) ⊎ IsOk r
           within f0 grows limits =
               within_next m s.brings.settled s.brings.fits s.brings.laws f g h (working c) work first waits
               (found_as from) s.at tile back over f0 grows limits r own_why
 
-          pub cause : IfErr r (HasCause t f g c.window)
+          pub cause : IfErr r (HasCoverCause t f g c.window)
           cause =
               cause_next m s.brings.settled s.brings.fits s.brings.laws f g h (working c) work first waits
               (found_as from) s.at tile back over r own_why

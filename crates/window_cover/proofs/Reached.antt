@@ -16,7 +16,7 @@ use Rattle.window_cover.specs.declared.runs.Runs.{Runs}
 use Rattle.window_cover.specs.declared.span.Span.{Span}
 use Rattle.window_cover.specs.Covered.{none}
 use Rattle.window_cover.specs.Found.{Found}
-use Rattle.window_cover.specs.Reach.{HoldEach, HoldRun, still}
+use Rattle.window_cover.specs.Reach.{HoldEach, HoldRun, still_run}
 use Rattle.window_cover.specs.Runs.{AreRuns, IsRunTile, no_run, run_of, seen, shifted_by, tile_seen}
 use Rattle.window_cover.specs.Words.{AreHeld, LiesIn}
 
@@ -32,19 +32,19 @@ plus-zero : (x : ℤ) → x +ℤ pos 0 ≡ x
 plus-zero x = omega (arith, ints)
 
 module _ (p : Point) where
-  sum-0 : (by : Option Point) → coefficient p 0 +ℤ coefficient (still by).shift 0 ≡ coefficient (shifted_by by p) 0
+  sum-0 : (by : Option Point) → coefficient p 0 +ℤ coefficient (still_run by).shift 0 ≡ coefficient (shifted_by by p) 0
   sum-0 None = plus-zero (coefficient p 0)
   sum-0 (Some by) = refl
 
-  sum-1 : (by : Option Point) → coefficient p 1 +ℤ coefficient (still by).shift 1 ≡ coefficient (shifted_by by p) 1
+  sum-1 : (by : Option Point) → coefficient p 1 +ℤ coefficient (still_run by).shift 1 ≡ coefficient (shifted_by by p) 1
   sum-1 None = plus-zero (coefficient p 1)
   sum-1 (Some by) = refl
 
-  sum-2 : (by : Option Point) → coefficient p 2 +ℤ coefficient (still by).shift 2 ≡ coefficient (shifted_by by p) 2
+  sum-2 : (by : Option Point) → coefficient p 2 +ℤ coefficient (still_run by).shift 2 ≡ coefficient (shifted_by by p) 2
   sum-2 None = plus-zero (coefficient p 2)
   sum-2 (Some by) = refl
 
-  sum-3 : (by : Option Point) → coefficient p 3 +ℤ coefficient (still by).shift 3 ≡ coefficient (shifted_by by p) 3
+  sum-3 : (by : Option Point) → coefficient p 3 +ℤ coefficient (still_run by).shift 3 ≡ coefficient (shifted_by by p) 3
   sum-3 None = plus-zero (coefficient p 3)
   sum-3 (Some by) = refl
 
@@ -54,7 +54,7 @@ HoldsSums a b sums = (x y : ℤ) → LiesIn a x → LiesIn b y → LiesIn sums (
 
 pub held-moved : (f g h : Fields) → HoldsSums f.a0 g.a0 h.a0 → HoldsSums f.a1 g.a1 h.a1
     → HoldsSums f.a2 g.a2 h.a2 → HoldsSums f.a3 g.a3 h.a3 → h.kinds ≡ f.kinds
-    → (m : Motion) (kind : ℕ) (by : Option Point) → AreHeld f m kind → AreHeld g (still by) 0
+    → (m : Motion) (kind : ℕ) (by : Option Point) → AreHeld f m kind → AreHeld g (still_run by) 0
     → AreHeld h (record { turn = m.turn; shift = shifted_by by m.shift }) kind
 held-moved f g h s0 s1 s2 s3 kinds m kind by own moved = record {
   a0 = subst (LiesIn h.a0) (sum-0 m.shift by) (s0 _ _ own.a0 moved.a0);
@@ -67,7 +67,7 @@ held-moved f g h s0 s1 s2 s3 kinds m kind by own moved = record {
 
 -- ---- all tiles of runs
 pub held-seen : (r : Runs) → AreRuns r → (own moved all : Fields) → HoldEach own r.leaves.found → AllByRecursion (HoldRun moved) r.runs.items
-    → ((m : Motion) (kind : ℕ) (by : Option Point) → AreHeld own m kind → AreHeld moved (still by) 0
+    → ((m : Motion) (kind : ℕ) (by : Option Point) → AreHeld own m kind → AreHeld moved (still_run by) 0
     → AreHeld all (record { turn = m.turn; shift = shifted_by by m.shift }) kind) → HoldEach all (seen r)
 held-seen r runs own moved all leaves shifts sums =
     AllByRecursion-map (λ (x : Found). AreHeld all x.motion x.kind) (tile_seen r.leaves.found r.runs.items r.spans.items) r.tiles.items

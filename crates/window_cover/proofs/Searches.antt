@@ -11,7 +11,7 @@ use Rattle.rule_model.specs.Accepted.{IsAccepted}
 use Rattle.rule_model.specs.Tiling.{Tiling, tiling_of, contacts, children}
 use Rattle.rule_model.specs.Usable.{IsUsable}
 use Rattle.tile_shape.specs.Usable.{AreUsable}
-use Rattle.window_cover.specs.Checked.{IsChecked}
+use Rattle.window_cover.specs.Checked.{IsCheckedRule}
 use Rattle.theory_walks.specs.Frames.{FrameValue, GrowsTo}
 use Rattle.theory_walks.proofs.Ancestors.{full-later}
 use Rattle.theory_windows.specs.EnoughDepth.{IsNotBeyond}
@@ -19,18 +19,18 @@ use Rattle.theory_windows.specs.FramePatch.{growing_frame}
 use Rattle.window_cover.specs.declared.cover_fault.CoverFault.{CoverFault}
 use Rattle.window_cover.specs.declared.cover_fault.CoverFault.TheVariants.{DepthLimit, CoordLimit, TooManyTiles, NoMemory}
 use Rattle.window_cover.specs.Beyond.{IsNotBeyondEnough}
-use Rattle.window_cover.specs.Found.{PlacedEdge, first_of}
-use Rattle.window_cover.specs.Causes.{HasCause}
+use Rattle.window_cover.specs.Found.{BorderEdge, first_of}
+use Rattle.window_cover.specs.Causes.{HasCoverCause}
 use Rattle.window_cover.specs.Windows.{TileOf, box_of}
 
-pub none-open : (border : List PlacedEdge) → first_of border ≡ None → border ≡ []
+pub none-open : (border : List BorderEdge) → first_of border ≡ None → border ≡ []
 none-open [] e = refl
 none-open (o ∷ os) e = absurd (cc e)
 
 -- ---- what a machine says of its rule
 pub checked_of : (m inside : Rule) (kinds : List (List ℕ)) → inside ≡ m → IsAccepted m → IsUsable m
     → child_kinds (contacts (tiling_of m)) ≡ children (tiling_of m)
-    → kinds ≡ children (tiling_of inside) → AreUsable kinds → IsChecked m
+    → kinds ≡ children (tiling_of inside) → AreUsable kinds → IsCheckedRule m
 checked_of m inside kinds e accepted usable same k h = record {
   accepted = accepted;
   usable = usable;
@@ -52,7 +52,7 @@ module _ (t : Tiling) (f g : FrameValue) (grows : GrowsTo t f g) where
       (growing_frame (points_of t.order) (is_refused t.order) t.rule a) (box_of t w) m n)
       (sym (full-later t f g grows)) h
 
-  pub cause-before : (now : FrameValue) (w : Window) (fault : CoverFault) → HasCause t g now w fault → HasCause t f now w fault
+  pub cause-before : (now : FrameValue) (w : Window) (fault : CoverFault) → HasCoverCause t g now w fault → HasCoverCause t f now w fault
   cause-before now w (DepthLimit addr edge) h = h
   cause-before now w (CoordLimit value) (inl h) = inl (record {
     is_first = ap (λ (a : Address). find (is_refused t.order)

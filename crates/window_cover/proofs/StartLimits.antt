@@ -27,10 +27,10 @@ use Rattle.theory_windows.proofs.Window.{centre-in_box}
 use Rattle.window_cover.specs.declared.cover_fault.CoverFault.{CoverFault}
 use Rattle.window_cover.specs.declared.cover_fault.CoverFault.TheVariants.{DepthLimit, CoordLimit, TooManyTiles, NoMemory}
 use Rattle.window_cover.specs.Admitted.{IsNotAdmitted}
-use Rattle.window_cover.specs.Causes.{IsRefusedShift, HasCause}
-use Rattle.window_cover.specs.Limits.{IsWithinLimits}
+use Rattle.window_cover.specs.Causes.{IsRefusedShift, HasCoverCause}
+use Rattle.window_cover.specs.Limits.{IsCoverWithinLimits}
 use Rattle.window_cover.specs.SearchLaws.{HasSearchLaws}
-use Rattle.window_cover.specs.Windows.{TileOf, IsWindow, box_of, polygon_of, IsLeastEnough}
+use Rattle.window_cover.specs.Windows.{TileOf, IsWindow, box_of, polygon_of, IsLeastForWindow}
 use Rattle.window_cover.specs.Working.{Working}
 use Rattle.theory_walks.proofs.InFull.{names, deep}
 use Rattle.window_cover.proofs.FrameNames.{level-holds}
@@ -52,7 +52,7 @@ module _ (m : Rule) (settled : IsSettled m) (fits : StillFits (children (tiling_
   abbrev F : Address
   F = full t f
 
-  pub not_beyond_start : (n : ℕ) → IsLeastEnough t f w n → length g.digits ≤ n
+  pub not_beyond_start : (n : ℕ) → IsLeastForWindow t f w n → length g.digits ≤ n
   not_beyond_start n enough = elim (cases_lt n (length g.digits)) [
     | inr l ↦ l
     | inl l ↦
@@ -93,7 +93,7 @@ module _ (m : Rule) (settled : IsSettled m) (fits : StillFits (children (tiling_
       is_refused = r;
     }
 
-    kept-within : IsWithinLimits t f w → is_refused m.order (point_in m.order tile.motion.shift) ≡ false
+    kept-within : IsCoverWithinLimits t f w → is_refused m.order (point_in m.order tile.motion.shift) ≡ false
     kept-within within =
         let d = within.drawn_within in
         let deeper = not_beyond_start d.depth d.least in
@@ -106,7 +106,7 @@ module _ (m : Rule) (settled : IsSettled m) (fits : StillFits (children (tiling_
         ∙ AllByRecursion-among (λ (y : TileOf t). is_refused m.order y.motion.shift ≡ false) at.0 d.drawn
         there d.none_refused
 
-    pub answered_first : (c : Working) → length c.found ≡ 0 → IsWithinLimits t f w
+    pub answered_first : (c : Working) → length c.found ≡ 0 → IsCoverWithinLimits t f w
         → {U : Type 0} (r : Result U CoverFault) → IfErr r (IsNotAdmitted t c tile) → (r ≡ Err NoMemory)
         ⊎ IsOk r
     answered_first c none within (Ok y) why = inr refl
@@ -115,7 +115,7 @@ module _ (m : Rule) (settled : IsSettled m) (fits : StillFits (children (tiling_
     answered_first c none within (Err TooManyTiles) why = absurd (omega (arith, why.0, none))
     answered_first c none within (Err NoMemory) why = inl refl
 
-    pub cause_first : (c : Working) → length c.found ≡ 0 → (fault : CoverFault) → IsNotAdmitted t c tile fault → HasCause t f g w fault
+    pub cause_first : (c : Working) → length c.found ≡ 0 → (fault : CoverFault) → IsNotAdmitted t c tile fault → HasCoverCause t f g w fault
     cause_first c none (DepthLimit addr edge) why = absurd why
     cause_first c none (CoordLimit value) why = inr (refused-first value why.0 why.1)
     cause_first c none TooManyTiles why = absurd (omega (arith, why.0, none))

@@ -26,7 +26,7 @@ use Rattle.tile_place.specs.Searched.{placed_in}
 use Rattle.tile_place.proofs.Plane.{IsSettled, its_rule}
 use Rattle.tile_shape.specs.Views.{address_of}
 use Rattle.theory_windows.specs.FrameCover.{IsLeastHolding, IsWindowOn}
-use Rattle.theory_windows.specs.FramePatch.{frame_patch, growing_frame, lifted_tile}
+use Rattle.theory_windows.specs.FramePatch.{frame_patch, growing_frame, tile_of_ancestor}
 use Rattle.theory_windows.specs.EnoughDepth.{IsNotBeyond}
 use Rattle.theory_windows.specs.GrowingPatch.{IsOfDepth}
 use Rattle.theory_windows.specs.OpenTest.{open_edges_of}
@@ -69,7 +69,7 @@ module _ (m : Rule) (settled : IsSettled m) (fits : StillFits (children (tiling_
 
   -- the tile by its name
   abbrev pub u : TileOf t
-  u = lifted_tile F own
+  u = tile_of_ancestor F own
 
   its_depth : length g.digits ≤ depth F
   its_depth = let d = deep m settled fits f is in omega (arith, d, h.is_frame.at_most_64)

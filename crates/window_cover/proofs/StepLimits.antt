@@ -23,7 +23,7 @@ use Rattle.tile_place.proofs.Plane.{IsSettled, its_rule}
 use Rattle.tile_shape.specs.Views.{address_of}
 use Rattle.theory_windows.specs.Distinct.{AreDistinct}
 use Rattle.theory_windows.specs.EnoughDepth.{IsNotBeyond}
-use Rattle.theory_windows.specs.FramePatch.{level_in, lifted_tile, in_frame}
+use Rattle.theory_windows.specs.FramePatch.{level_in, tile_of_ancestor, in_frame}
 use Rattle.theory_windows.specs.FrameWindow.{IsLeastDepth, IsWindowWithin}
 use Rattle.theory_windows.specs.GrowingPatch.{IsOfDepth}
 use Rattle.theory_windows.specs.Meeting.{PolygonMeetsBox}
@@ -34,14 +34,14 @@ use Rattle.window_cover.specs.declared.cover_fault.CoverFault.TheVariants.{Depth
 use Rattle.window_cover.specs.declared.open_edge.OpenEdge.{OpenEdge}
 use Rattle.window_cover.specs.Admitted.{IsNotAdmitted}
 use Rattle.window_cover.specs.Border.{first_waiting}
-use Rattle.window_cover.specs.Causes.{IsRefusedShift, AreTooMany, HasCause}
+use Rattle.window_cover.specs.Causes.{IsRefusedShift, AreTooMany, HasCoverCause}
 use Rattle.lazy_walk.specs.Crossed.{IsCrossedTo}
 use Rattle.window_cover.specs.Found.{Found, address_found}
-use Rattle.window_cover.specs.Limits.{IsWithinLimits}
+use Rattle.window_cover.specs.Limits.{IsCoverWithinLimits}
 use Rattle.theory_windows.specs.Limits.{most_tiles}
 use Rattle.window_cover.specs.Right.{growing}
 use Rattle.window_cover.specs.SearchLaws.{HasSearchLaws}
-use Rattle.window_cover.specs.Windows.{TileOf, box_of, polygon_of, MeetsWindow, IsOfFrame, IsLeastEnough}
+use Rattle.window_cover.specs.Windows.{TileOf, box_of, polygon_of, MeetsWindow, IsOfFrame, IsLeastForWindow}
 use Rattle.window_cover.specs.Working.{Working, state_of, IsWorking}
 use Rattle.theory_walks.proofs.InFull.{names, deep, level-grown}
 use Rattle.window_cover.proofs.Names.{window-on}
@@ -86,7 +86,7 @@ module _ (m : Rule) (settled : IsSettled m) (fits : StillFits (children (tiling_
     fine : TileOf t
     of_frame : IsOfFrame t g fine
     meets : MeetsWindow t c.window fine
-    is : u ≡ lifted_tile F fine
+    is : u ≡ tile_of_ancestor F fine
 
   fine-of : (u : TileOf t) → IsOfDepth P.real (TileOf t) (growing t f) (length g.digits) u
       → PolygonMeetsBox P.real (box_of t c.window) (polygon_of t u) → Fine u
@@ -101,7 +101,7 @@ module _ (m : Rule) (settled : IsSettled m) (fits : StillFits (children (tiling_
 
   record Fines (us : List (TileOf t)) : Type 0 where
     tiles : List (TileOf t)
-    lifts : map (lifted_tile F) tiles ≡ us
+    lifts : map (tile_of_ancestor F) tiles ≡ us
     each : AllByRecursion (λ x. IsOfFrame t g x × MeetsWindow t c.window x) tiles
 
   fines-of : (us : List (TileOf t)) → AllByRecursion Fine us → Fines us
@@ -111,7 +111,7 @@ module _ (m : Rule) (settled : IsSettled m) (fits : StillFits (children (tiling_
       let one : Fine u = all.0 in
       record {
         tiles = one.fine ∷ more.tiles;
-        lifts = ap (λ y. y ∷ map (lifted_tile F) more.tiles) (sym one.is) ∙ ap (λ ys. u ∷ ys) more.lifts;
+        lifts = ap (λ y. y ∷ map (tile_of_ancestor F) more.tiles) (sym one.is) ∙ ap (λ ys. u ∷ ys) more.lifts;
         each = ((one.of_frame, one.meets), more.each);
       }
 
@@ -120,7 +120,7 @@ module _ (m : Rule) (settled : IsSettled m) (fits : StillFits (children (tiling_
     abbrev u : TileOf t
     u = in_frame P T.rule F (address_of tile.addr)
 
-    pub not_beyond_next : (f0 : FrameValue) (n : ℕ) → GrowsTo t f0 f → IsLeastEnough t f0 c.window n → length f.digits ≤ n → length g.digits ≤ n
+    pub not_beyond_next : (f0 : FrameValue) (n : ℕ) → GrowsTo t f0 f → IsLeastForWindow t f0 c.window n → length f.digits ≤ n → length g.digits ≤ n
     not_beyond_next f0 n grows enough below =
         let same_full : full t f ≡ full t f0 = full-later t f0 f grows in
         let d = deep m settled fits f right.frame in
@@ -133,7 +133,7 @@ module _ (m : Rule) (settled : IsSettled m) (fits : StillFits (children (tiling_
         let beyond = (one.0.not_beyond s.depth here).not_beyond n below least.enough in
         subst (λ k. k ≤ n) one.1 beyond
 
-    pub within_next : (f0 : FrameValue) → GrowsTo t f0 f → IsWithinLimits t f0 c.window
+    pub within_next : (f0 : FrameValue) → GrowsTo t f0 f → IsCoverWithinLimits t f0 c.window
         → {U : Type 0} (r : Result U CoverFault) → IfErr r (IsNotAdmitted t c tile) → (r ≡ Err NoMemory)
         ⊎ IsOk r
     within_next f0 grows within r why =
@@ -195,16 +195,16 @@ module _ (m : Rule) (settled : IsSettled m) (fits : StillFits (children (tiling_
         (AllByRecursion-among (λ z. PolygonMeetsBox P.real (box_of t c.window) (polygon_of t z)) y s.found i right.state.each_meets)) in
         let all = fines-of (s.found ++ u ∷ []) (AllByRecursion-append Fine s.found (u ∷ []) d (own_fine, tt)) in
         let one = step m settled fits L f g h c right first is_first x at tile back crossed in
-        let count : length all.tiles ≡ length c.found + 1 = sym (length-map all.tiles (lifted_tile F))
+        let count : length all.tiles ≡ length c.found + 1 = sym (length-map all.tiles (tile_of_ancestor F))
         ∙ ap length all.lifts ∙ length-append s.found (u ∷ []) ∙ ap (λ n. n + 1) (length-map c.found _) in
         record {
           tiles = all.tiles;
           count = omega (arith, count, many, right.not_too_many);
-          distinct = distinct-unmap (lifted_tile F) all.tiles
+          distinct = distinct-unmap (tile_of_ancestor F) all.tiles
               (subst AreDistinct (sym all.lifts) (distinct-more s.found u right.state.distinct one.0.new));
           of_frame = all.each;
-          none_refused = AllByRecursion-from Unrefused all.tiles (λ y i. AllByRecursion-among Unrefused (lifted_tile F y) (s.found ++ u ∷ [])
-              (subst (IsAmong (lifted_tile F y)) all.lifts (IsAmong-map (lifted_tile F) y all.tiles i))
+          none_refused = AllByRecursion-from Unrefused all.tiles (λ y i. AllByRecursion-among Unrefused (tile_of_ancestor F y) (s.found ++ u ∷ [])
+              (subst (IsAmong (tile_of_ancestor F y)) all.lifts (IsAmong-map (tile_of_ancestor F) y all.tiles i))
               (AllByRecursion-append Unrefused s.found (u ∷ []) right.state.none_refused (own_kept, tt)));
         }
       where
@@ -214,7 +214,7 @@ module _ (m : Rule) (settled : IsSettled m) (fits : StillFits (children (tiling_
         own_kept : Unrefused u
         own_kept = sym (ap (λ k. is_refused m.order k.shift) (placed m settled fits L f g h c right first is_first x at tile back crossed)) ∙ kept
 
-    pub cause_next : {U : Type 0} (r : Result U CoverFault) → IfErr r (IsNotAdmitted t c tile) → IfErr r (HasCause t f g c.window)
+    pub cause_next : {U : Type 0} (r : Result U CoverFault) → IfErr r (IsNotAdmitted t c tile) → IfErr r (HasCoverCause t f g c.window)
     cause_next (Ok y) why = tt
     cause_next (Err (DepthLimit addr edge)) why = absurd why
     cause_next (Err (CoordLimit value)) why = inr (refused-shift value why.0 why.1)

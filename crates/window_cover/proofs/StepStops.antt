@@ -29,13 +29,13 @@ use Rattle.theory_windows.specs.Refusals as patch
 use Rattle.theory_windows.specs.SearchState.{SearchState}
 use Rattle.window_cover.specs.declared.open_edge.OpenEdge.{OpenEdge}
 use Rattle.window_cover.specs.Border.{first_waiting}
-use Rattle.window_cover.specs.Causes.{IsDepthLimit}
+use Rattle.window_cover.specs.Causes.{IsCoverDepthLimit}
 use Rattle.window_cover.specs.Found.{Found, address_found}
-use Rattle.window_cover.specs.Limits.{IsWithinLimits}
+use Rattle.window_cover.specs.Limits.{IsCoverWithinLimits}
 use Rattle.theory_windows.specs.Limits.{most_tiles}
 use Rattle.window_cover.specs.Right.{name_of, growing}
 use Rattle.window_cover.specs.SearchLaws.{HasSearchLaws}
-use Rattle.window_cover.specs.Windows.{TileOf, box_of, IsLeastEnough}
+use Rattle.window_cover.specs.Windows.{TileOf, box_of, IsLeastForWindow}
 use Rattle.window_cover.specs.Working.{Working, state_of, IsWorking}
 use Rattle.theory_walks.proofs.InFull.{names, deep, level-grown, tile-full, whole-level}
 use Rattle.window_cover.proofs.Names.{window-on, its_found, found-at, name-at, edge-exists}
@@ -95,7 +95,7 @@ module _ (m : Rule) (settled : IsSettled m) (fits : StillFits (children (tiling_
   stop = L.stop T F (is_refused m.order) (box_of t c.window) (window-on m settled fits L f right.frame c right) s right.state one.edge among a
       (found-at m settled fits L f right.frame c right one.edge.tile x at_o) own_edge on_part.0 on_part.1 on_part.2
 
-  pub not_enough : (f0 : FrameValue) (n : ℕ) → GrowsTo t f0 f → ¬ IsLeastEnough t f0 c.window n
+  pub not_enough : (f0 : FrameValue) (n : ℕ) → GrowsTo t f0 f → ¬ IsLeastForWindow t f0 c.window n
   not_enough f0 n grows enough =
       let d = deep m settled fits f right.frame in
       let least = (L.least T F (names m settled fits f right.frame) (is_refused m.order) (box_of t c.window)
@@ -103,14 +103,14 @@ module _ (m : Rule) (settled : IsSettled m) (fits : StillFits (children (tiling_
       (subst (λ y. IsLeastDepth P T.rule y (box_of t c.window) (length f0.digits) n) (sym (full-later t f0 f grows)) enough) in
       stop.0.none_enough n least.enough
 
-  pub not_within : (f0 : FrameValue) → GrowsTo t f0 f → ¬ IsWithinLimits t f0 c.window
+  pub not_within : (f0 : FrameValue) → GrowsTo t f0 f → ¬ IsCoverWithinLimits t f0 c.window
   not_within f0 grows within =
       stop.1 (length f0.digits) most_tiles (subst
       (λ y. IsWindowWithin P (is_refused m.order) T.rule y (box_of t c.window) (length f0.digits)
       most_tiles) (sym (full-later t f0 f grows)) within.drawn_within)
 
   pub depth_limit : (g : FrameValue) → GrowsTo t f g → length g.digits ≡ 64 → (addr : program.Address)
-      → address_of addr ≡ lifted_in F a → (edge : ℕ) → edge ≡ first.edge → IsDepthLimit t g c.window addr edge
+      → address_of addr ≡ lifted_in F a → (edge : ℕ) → edge ≡ first.edge → IsCoverDepthLimit t g c.window addr edge
   depth_limit g h at_64 addr named edge same = record {
     at_64 = at_64;
     tile = in_frame P T.rule F a;

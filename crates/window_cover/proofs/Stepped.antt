@@ -17,7 +17,7 @@ use Rattle.theory_windows.specs.Outlines.{PlaneEdge}
 use Rattle.theory_windows.specs.PatchWindow.{LiesAcross}
 use Rattle.window_cover.specs.declared.open_edge.OpenEdge.{OpenEdge}
 use Rattle.window_cover.specs.Admitted.{IsAdmitted, found_as}
-use Rattle.window_cover.specs.Found.{Found, address_found, PlacedEdge, CoverValue, first_of}
+use Rattle.window_cover.specs.Found.{Found, address_found, BorderEdge, CoverValue, first_of}
 use Rattle.window_cover.specs.Right.{growing, name_of, line_at, numbered, IsRight}
 use Rattle.window_cover.specs.SearchLaws.{HasSearchLaws}
 use Rattle.window_cover.specs.Stepping.{StepsTo, IsFirstOnBoundary}
@@ -27,12 +27,12 @@ use Rattle.window_cover.proofs.NextState.{FirstIn, first_edge, lies_across, new_
 use Rattle.window_cover.proofs.Works.{first-packed, open-are, works}
 
 -- ---- the first open edge
-record Placed (border : List PlacedEdge) : Type 0 where
-  edge : PlacedEdge
-  rest : List PlacedEdge
+record Placed (border : List BorderEdge) : Type 0 where
+  edge : BorderEdge
+  rest : List BorderEdge
   is : border ≡ edge ∷ rest
 
-placed-first : (border : List PlacedEdge) (first : OpenEdge) → first_of border ≡ Some first → Placed border
+placed-first : (border : List BorderEdge) (first : OpenEdge) → first_of border ≡ Some first → Placed border
 placed-first [] first e = absurd (cc e)
 placed-first (o ∷ os) first e = record { edge = o; rest = os; is = refl }
 

@@ -17,7 +17,7 @@ use Rattle.theory_windows.specs.Laws.{OpenTestLaw}
 use Rattle.theory_windows.specs.OpenEdges.{NumberedEdge}
 use Rattle.window_cover.specs.declared.ends.Ends.{Ends}
 use Rattle.window_cover.specs.Border.{Waiting, first_waiting}
-use Rattle.window_cover.specs.Found.{PlacedEdge, CoverValue, first_of}
+use Rattle.window_cover.specs.Found.{BorderEdge, CoverValue, first_of}
 use Rattle.window_cover.specs.Packed.{point_of_words, unpacked, packed}
 use Rattle.window_cover.specs.Right.{growing, tiles_found, numbered, HasEnds, IsRight}
 use Rattle.window_cover.specs.Windows.{TileOf, box_of, polygon_of}
@@ -40,7 +40,7 @@ order-same Eight p q e h = tt
 order-same Ten p q e h = tt
 
 -- ---- the first open edge
-pub first-packed : (border : List PlacedEdge) → first_waiting (map packed border) ≡ first_of border
+pub first-packed : (border : List BorderEdge) → first_waiting (map packed border) ≡ first_of border
 first-packed [] = refl
 first-packed (o ∷ os) = refl
 
@@ -49,7 +49,7 @@ first-unpacked [] = refl
 first-unpacked (o ∷ os) = refl
 
 module _ (t : Tiling) where
-  waits : (o : PlacedEdge) → HasEnds t o → IsEdgeWaiting t (packed o) (numbered t o)
+  waits : (o : BorderEdge) → HasEnds t o → IsEdgeWaiting t (packed o) (numbered t o)
   waits o h = record {
     same_tile = refl;
     same_edge = refl;
@@ -64,7 +64,7 @@ module _ (t : Tiling) where
     ends_there = refl;
   }
 
-  all-wait : (border : List PlacedEdge) → AllByRecursion (HasEnds t) border → AllZip (IsEdgeWaiting t) (map packed border) (map (numbered t) border)
+  all-wait : (border : List BorderEdge) → AllByRecursion (HasEnds t) border → AllZip (IsEdgeWaiting t) (map packed border) (map (numbered t) border)
   all-wait [] h = tt
   all-wait (o ∷ os) h = (waits o h.0, all-wait os h.1)
 

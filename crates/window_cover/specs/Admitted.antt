@@ -28,11 +28,15 @@ pub record IsAdmitted (t : Tiling) (c d : Working) (tile : PlacedTile) : Type 0 
   pub found : d.found ≡ c.found ++ found_as tile ∷ []
   pub corners : List Point
   pub are_corners : AreCorners t tile.kind tile.motion corners
-  pub border : d.border ≡ left_open corners (length corners) c.border ++ opened t.order c.window (length c.found) corners (length corners) c.border
+  pub border : d.border
+      ≡ left_open corners (length corners) c.border
+      ++ opened t.order c.window (length c.found) corners (length corners) c.border
 
 -- why it is not added: its shift is refused; or it is not, and there are as many tiles as the limit already
 abbrev pub IsNotAdmitted : Tiling → Working → PlacedTile → CoverFault → Type 0
 IsNotAdmitted t c tile (DepthLimit addr edge) = ⊥
-IsNotAdmitted t c tile (CoordLimit value) = (value ≡ tile.motion.shift) × (is_refused t.order (point_in t.order tile.motion.shift) ≡ true)
-IsNotAdmitted t c tile TooManyTiles = (most_tiles ≤ length c.found) × (is_refused t.order (point_in t.order tile.motion.shift) ≡ false)
+IsNotAdmitted t c tile (CoordLimit value) = (value ≡ tile.motion.shift)
+    × (is_refused t.order (point_in t.order tile.motion.shift) ≡ true)
+IsNotAdmitted t c tile TooManyTiles = (most_tiles ≤ length c.found)
+    × (is_refused t.order (point_in t.order tile.motion.shift) ≡ false)
 IsNotAdmitted t c tile NoMemory = Unit {0}

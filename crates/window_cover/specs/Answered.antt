@@ -16,8 +16,8 @@ use Rattle.theory_descents.specs.Parts.{drawn_below}
 use Rattle.window_cover.specs.Descending.{tiles_in, IsKeptTile}
 use Rattle.window_cover.specs.Found.{CoverValue}
 use Rattle.window_cover.specs.InOrder.{AreInOrder}
-use Rattle.window_cover.specs.Limits.{IsWithinLimits}
-use Rattle.window_cover.specs.Windows.{TileOf, box_of, AreDrawn, CoverWindow, IsLeastEnough}
+use Rattle.window_cover.specs.Limits.{IsCoverWithinLimits}
+use Rattle.window_cover.specs.Windows.{TileOf, box_of, AreDrawn, CoverWindow, IsLeastForWindow}
 use Rattle.theory_windows.specs.Limits.{most_tiles}
 
 -- the tiles below the frame's supertile that meet the window
@@ -39,6 +39,6 @@ pub record IsAnswered (t : Tiling) (f g : FrameValue) (w : Window) (tiles : List
   pub drawn : AreDrawn t g w (map (placed_in t.order) tiles)
   pub stand : All (Stands t g) tiles
   pub in_order : AreInOrder tiles
-  pub least : IsLeastEnough t f w (length g.digits)
+  pub least : IsLeastForWindow t f w (length g.digits)
   pub covered : CoverWindow t g w (map (placed_in t.order) tiles)
-  pub within : IsWithinLimits t f w
+  pub within : IsCoverWithinLimits t f w

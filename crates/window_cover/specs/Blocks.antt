@@ -40,11 +40,13 @@ pub record AreBlocks (m : Rule) (leaves : List Found) (bs : Blocks) : Type 0 whe
   pub kept : AllByRecursion (IsKeptTile (tiling_of m)) leaves
   pub low : bs.height ≤ 6
   pub room : length bs.blocks.items ≡ 7 * 256
-  pub made : (level kind turn : ℕ) → level ≤ 6 → kind < length (rule_of m).kinds → turn < (points_of m.order).order
+  pub made : (level kind turn : ℕ) → level ≤ 6 → kind < length (rule_of m).kinds
+      → turn < (points_of m.order).order
       → IfSome (get_or bs.blocks.items (row_place level kind turn) None) (IsBlock m leaves level kind turn)
 
 -- the block of this level, kind and turn; there may be more leaves, blocks and rows after it is made
-pub record IsBlockOf (m : Rule) (before after : Rows) (c d : CoverValue) (bs : Blocks) (level kind turn : ℕ) (b : Block) : Type 0 where
+pub record IsBlockOf (m : Rule) (before after : Rows) (c d : CoverValue) (bs : Blocks) (level kind turn : ℕ)
+    (b : Block) : Type 0 where
   pub rows : AreRows m after
   pub levels : levels_of after ≡ levels_of before
   pub same_window : d.window ≡ c.window

@@ -22,14 +22,16 @@ use Rattle.theory_windows.specs.Limits.{most_tiles}
 
 -- the frame is at depth 64; the tile meets the window; and so does this edge of it, which is on the boundary
 -- of the frame's supertile
-pub record IsDepthLimit (t : Tiling) (f : FrameValue) (w : Window) (addr : Address) (edge : ℕ) : Type 0 where
+pub record IsCoverDepthLimit (t : Tiling) (f : FrameValue) (w : Window) (addr : Address)
+    (edge : ℕ) : Type 0 where
   pub at_64 : length f.digits ≡ 64
   pub tile : TileOf t
   pub its_address : tile.address ≡ address_of addr
   pub of_frame : IsOfFrame t f tile
   pub tile_meets : MeetsWindow t w tile
   pub edge_exists : edge < edge_count t.rule tile.address.kind
-  pub edge_meets : MeetsBox (points_of t.order).real (box_of t w) (line_of (points_of t.order) t.rule tile edge)
+  pub edge_meets : MeetsBox (points_of t.order).real (box_of t w)
+      (line_of (points_of t.order) t.rule tile edge)
   pub on_boundary : IsBoundaryEdge t tile.address edge
 
 -- the first refused value on the way to the centre, as a point of its order
@@ -56,8 +58,8 @@ pub record AreTooMany (t : Tiling) (f : FrameValue) (w : Window) : Type 0 where
   pub none_refused : AllByRecursion (λ (x : TileOf t). is_refused t.order x.motion.shift ≡ false) tiles
 
 -- the cause of each fault; the frame was f, and is g
-abbrev pub HasCause : Tiling → FrameValue → FrameValue → Window → CoverFault → Type 0
-HasCause t f g w (DepthLimit addr edge) = IsDepthLimit t g w addr edge
-HasCause t f g w (CoordLimit value) = IsFirstRefused t f w value ⊎ IsRefusedShift t g w value
-HasCause t f g w TooManyTiles = AreTooMany t g w
-HasCause t f g w NoMemory = Unit {0}
+abbrev pub HasCoverCause : Tiling → FrameValue → FrameValue → Window → CoverFault → Type 0
+HasCoverCause t f g w (DepthLimit addr edge) = IsCoverDepthLimit t g w addr edge
+HasCoverCause t f g w (CoordLimit value) = IsFirstRefused t f w value ⊎ IsRefusedShift t g w value
+HasCoverCause t f g w TooManyTiles = AreTooMany t g w
+HasCoverCause t f g w NoMemory = Unit {0}

@@ -9,7 +9,7 @@ use Rattle.tile_shape.specs.Usable.{AreUsable}
 
 -- The rule is accepted, and its numbers exist. Each of its kinds has a use, and its contact tables have its
 -- child kinds. This holds for the rule of every machine.
-pub record IsChecked (r : Rule) : Type 0 where
+pub record IsCheckedRule (r : Rule) : Type 0 where
   pub accepted : IsAccepted r
   pub usable : IsUsable r
   pub uses_usable : AreUsable (children (tiling_of r))

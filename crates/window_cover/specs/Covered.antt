@@ -19,7 +19,10 @@ abbrev pub placed_as : List theory.Step → Found → PlacedTile
 placed_as above x = record {
   kind = x.kind;
   motion = x.motion;
-  addr = record { kind = x.kind; digits = record { items = map step_as (x.digits ++ drop (length x.digits) above) } };
+  addr = record {
+    kind = x.kind;
+    digits = record { items = map step_as (x.digits ++ drop (length x.digits) above) };
+  };
 }
 
 -- the tiles with these numbers

@@ -18,7 +18,7 @@ abbrev pub address_found : Found → Address
 address_found x = record { kind = x.kind; digits = x.digits }
 
 -- an open edge, with its start and its end
-pub record PlacedEdge : Type 0 where
+pub record BorderEdge : Type 0 where
   pub edge : OpenEdge
   pub from : Point
   pub to : Point
@@ -27,9 +27,9 @@ pub record PlacedEdge : Type 0 where
 pub record CoverValue : Type 0 where
   pub window : Window
   pub found : List Found
-  pub border : List PlacedEdge
+  pub border : List BorderEdge
 
 -- the first of these edges
-abbrev pub first_of : List PlacedEdge → Option OpenEdge
+abbrev pub first_of : List BorderEdge → Option OpenEdge
 first_of [] = None
 first_of (o ∷ os) = Some o.edge

@@ -26,7 +26,8 @@ pub record AreGathering (m : Rule) (r : Runs) (children : Rows) (bs : Blocks) : 
   pub window : IsWindow r.leaves.window
 
 -- it stays right, and the tiles of a part are found after those before
-pub record IsGathered (m : Rule) (r s : Runs) (children later : Rows) (bs : Blocks) (before after : List Step) (all : Bool) (level : ℕ)
+pub record IsGathered (m : Rule) (r s : Runs) (children later : Rows) (bs : Blocks) (before after : List Step)
+    (all : Bool) (level : ℕ)
     (p : Part) : Type 0 where
   pub state : AreGathering m s later bs
   pub levels : levels_of later ≡ levels_of children

@@ -16,7 +16,8 @@ digits_in all x = map step_of (take x.depth (drop x.first all))
 
 -- the tiles as contracts see them
 abbrev pub found_in : List Step → List FoundTile → List Found
-found_in all xs = map (λ (x : FoundTile). record { kind = x.kind; motion = x.motion; digits = digits_in all x }) xs
+found_in all xs = map
+    (λ (x : FoundTile). record { kind = x.kind; motion = x.motion; digits = digits_in all x }) xs
 
 -- the digits of each lie within the list
 abbrev pub AreKept : List Step → List FoundTile → Type 0

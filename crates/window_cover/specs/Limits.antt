@@ -13,6 +13,7 @@ use Rattle.window_cover.specs.Windows.{box_of}
 
 -- No value on the way to the centre is refused. Some depth is enough. At the least enough depth no tile that
 -- meets the window has a refused shift, and there are not too many of them.
-pub record IsWithinLimits (t : Tiling) (f : FrameValue) (w : Window) : Type 0 where
+pub record IsCoverWithinLimits (t : Tiling) (f : FrameValue) (w : Window) : Type 0 where
   pub centre_found : first_refused_outward t f (point_in t.order w.centre) ≡ None
-  pub drawn_within : IsWindowWithin (points_of t.order) (is_refused t.order) t.rule (full t f) (box_of t w) (length f.digits) most_tiles
+  pub drawn_within : IsWindowWithin (points_of t.order) (is_refused t.order) t.rule (full t f) (box_of t w)
+      (length f.digits) most_tiles

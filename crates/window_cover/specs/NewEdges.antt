@@ -17,7 +17,12 @@ use Rattle.window_cover.specs.Windows.{window_box}
 
 -- the edge traversed backwards
 abbrev pub reversed : Ends → Ends
-reversed k = record { start_low = k.end_low; start_high = k.end_high; end_low = k.start_low; end_high = k.start_high }
+reversed k = record {
+  start_low = k.end_low;
+  start_high = k.end_high;
+  end_low = k.start_low;
+  end_high = k.start_high;
+}
 
 -- the start and the end of edge number e of a tile with these corners
 abbrev pub start_at : List Point → ℕ → Point
@@ -31,7 +36,9 @@ ends_at corners e = ends_of (start_at corners e) (end_at corners e)
 
 -- true if the edge between two points meets the window
 unfoldable pub meets_window : Order → Window → Point → Point → Bool
-meets_window o w a b = box_test (points_of o).real (plane_point (points_of o) (point_in o a)) (plane_point (points_of o) (point_in o b)) (window_box o w)
+meets_window o w a b =
+    box_test (points_of o).real (plane_point (points_of o) (point_in o a))
+    (plane_point (points_of o) (point_in o b)) (window_box o w)
 
 -- edge number e of tile number i, as an open edge
 abbrev pub waiting_at : ℕ → List Point → ℕ → Waiting
@@ -47,15 +54,19 @@ without k waiting = filter (λ o. not (have_same_ends (reversed k) o.ends)) wait
 
 -- the edges of which none of the tile's first n edges is the reverse
 abbrev pub left_open : List Point → ℕ → List Waiting → List Waiting
-left_open corners n waiting = filter (λ o. not (some_below n (λ e. have_same_ends (reversed (ends_at corners e)) o.ends))) waiting
+left_open corners n waiting =
+    filter (λ o. not (some_below n (λ e. have_same_ends (reversed (ends_at corners e)) o.ends))) waiting
 
 -- of its own first n edges, those that meet the window and are the reverse of no open edge
 abbrev pub opened : Order → Window → ℕ → List Point → ℕ → List Waiting → List Waiting
 opened o w i corners n waiting =
-    chosen_below (λ e. meets_window o w (start_at corners e) (end_at corners e) && not (closes (ends_at corners e) waiting)) (waiting_at i corners) n
+    chosen_below (λ e. meets_window o w (start_at corners e) (end_at corners e)
+    && not (closes (ends_at corners e) waiting)) (waiting_at i corners) n
 
 -- The edges of a tile have different ends. None is the reverse of another, and none is open.
 pub record AreNew (corners : List Point) (waiting : List Waiting) : Type 0 where
-  pub apart : (e f : ℕ) → e < length corners → f < length corners → (¬ e ≡ f) → have_same_ends (ends_at corners e) (ends_at corners f) ≡ false
-  pub no_return : (e f : ℕ) → e < length corners → f < length corners → have_same_ends (reversed (ends_at corners e)) (ends_at corners f) ≡ false
+  pub apart : (e f : ℕ) → e < length corners → f < length corners → (¬ e ≡ f)
+      → have_same_ends (ends_at corners e) (ends_at corners f) ≡ false
+  pub no_return : (e f : ℕ) → e < length corners → f < length corners
+      → have_same_ends (reversed (ends_at corners e)) (ends_at corners f) ≡ false
   pub fresh : (e : ℕ) → e < length corners → has_ends (ends_at corners e) waiting ≡ false

@@ -7,4 +7,5 @@ use Rattle.window_cover.specs.InOrder.{numbers_placed}
 
 -- the tile at this place is of this kind, and has the motion's shift and turn
 abbrev pub IsPlacedAt : List PlacedTile → Motion → ℕ → ℕ → Type 0
-IsPlacedAt tiles m kind place = (x : PlacedTile) × (slice_get tiles place ≡ Some x) × (numbers_placed x ≡ order_numbers m kind)
+IsPlacedAt tiles m kind place = (x : PlacedTile) × (slice_get tiles place ≡ Some x)
+    × (numbers_placed x ≡ order_numbers m kind)

@@ -4,7 +4,7 @@ use Rattle.cyclo_points.specs.declared.point.Point.{Point}
 use Rattle.cyclo_points.specs.Point.{coefficient}
 use Rattle.window_cover.specs.declared.ends.Ends.{Ends}
 use Rattle.window_cover.specs.Border.{Waiting}
-use Rattle.window_cover.specs.Found.{PlacedEdge}
+use Rattle.window_cover.specs.Found.{BorderEdge}
 
 -- a coefficient, raised above 0
 abbrev pub raised : ℤ → ℕ
@@ -29,11 +29,18 @@ lowered n = pos n +ℤ neg_ℤ (pos (2 ^ 31))
 
 -- the point in two words
 abbrev pub point_of_words : ℕ → ℕ → Point
-point_of_words low high = record { c = lowered (low / 2 ^ 32) ∷ lowered (low % 2 ^ 32) ∷ lowered (high / 2 ^ 32) ∷ lowered (high % 2 ^ 32) ∷ [] }
+point_of_words low high = record {
+  c = lowered (low / 2 ^ 32) ∷ lowered (low % 2 ^ 32) ∷ lowered (high / 2 ^ 32) ∷ lowered (high % 2 ^ 32) ∷
+      [];
+}
 
 -- an open edge with its ends as points, and with its ends in words
-abbrev pub unpacked : Waiting → PlacedEdge
-unpacked w = record { edge = w.edge; from = point_of_words w.ends.start_low w.ends.start_high; to = point_of_words w.ends.end_low w.ends.end_high }
+abbrev pub unpacked : Waiting → BorderEdge
+unpacked w = record {
+  edge = w.edge;
+  from = point_of_words w.ends.start_low w.ends.start_high;
+  to = point_of_words w.ends.end_low w.ends.end_high;
+}
 
-abbrev pub packed : PlacedEdge → Waiting
+abbrev pub packed : BorderEdge → Waiting
 packed o = record { ends = ends_of o.from o.to; edge = o.edge }

@@ -11,9 +11,9 @@ use Rattle.window_cover.specs.Found.{Found}
 use Rattle.window_cover.specs.Words.{AreHeld}
 
 -- the motion of a run, which only shifts
-abbrev pub still : Option Point → Motion
-still None = record { turn = 0; shift = origin }
-still (Some by) = record { turn = 0; shift = by }
+abbrev pub still_run : Option Point → Motion
+still_run None = record { turn = 0; shift = origin }
+still_run (Some by) = record { turn = 0; shift = by }
 
 -- the fields have room for each tile
 abbrev pub HoldEach : Fields → List Found → Type 0
@@ -21,4 +21,4 @@ HoldEach f found = AllByRecursion (λ (x : Found). AreHeld f x.motion x.kind) fo
 
 -- they have room for the motion of a run, as for a tile of kind 0
 abbrev pub HoldRun : Fields → Run → Type 0
-HoldRun f r = AreHeld f (still r.shift) 0
+HoldRun f r = AreHeld f (still_run r.shift) 0

@@ -21,7 +21,8 @@ use Rattle.window_cover.specs.Found.{Found}
 -- the sum of two shifts
 abbrev pub moved_by : Point → Point → Point
 moved_by by p = record {
-  c = (coefficient p 0 +ℤ coefficient by 0) ∷ (coefficient p 1 +ℤ coefficient by 1) ∷ (coefficient p 2 +ℤ coefficient by 2) ∷ (coefficient p 3 +ℤ coefficient by 3) ∷ [];
+  c = (coefficient p 0 +ℤ coefficient by 0) ∷ (coefficient p 1 +ℤ coefficient by 1) ∷
+      (coefficient p 2 +ℤ coefficient by 2) ∷ (coefficient p 3 +ℤ coefficient by 3) ∷ [];
 }
 
 abbrev pub shifted_by : Option Point → Point → Point
@@ -48,7 +49,8 @@ abbrev pub span_of : List Step → Run → List TheStep
 span_of spans run = map step_of (take run.depth (drop run.first spans))
 
 abbrev pub tile_seen : List Found → List Run → List Step → RunTile → Found
-tile_seen leaves runs spans t = run_tile (run_of runs t.run).shift (span_of spans (run_of runs t.run)) (tile_of leaves t.leaf)
+tile_seen leaves runs spans t =
+    run_tile (run_of runs t.run).shift (span_of spans (run_of runs t.run)) (tile_of leaves t.leaf)
 
 abbrev pub seen : Runs → List Found
 seen r = map (tile_seen r.leaves.found r.runs.items r.spans.items) r.tiles.items

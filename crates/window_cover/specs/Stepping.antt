@@ -6,19 +6,20 @@ use Rattle.theory_walks.specs.Boundary.{IsBoundaryEdge}
 use Rattle.theory_walks.specs.Frames.{FrameValue, lifted_at}
 use Rattle.theory_windows.specs.PatchWindow.{LiesAcross}
 use Rattle.window_cover.specs.declared.open_edge.OpenEdge.{OpenEdge}
-use Rattle.window_cover.specs.Found.{Found, address_found, PlacedEdge, CoverValue, first_of}
+use Rattle.window_cover.specs.Found.{Found, address_found, BorderEdge, CoverValue, first_of}
 use Rattle.window_cover.specs.Right.{IsRight, growing, name_of, line_at}
 use Rattle.window_cover.specs.Windows.{TileOf}
 
 -- one more tile is found: the one across the first open edge
 pub record StepsTo (t : Tiling) (f : FrameValue) (c d : CoverValue) : Type 0 where
   pub same_window : d.window ≡ c.window
-  pub first : PlacedEdge
-  pub rest : List PlacedEdge
+  pub first : BorderEdge
+  pub rest : List BorderEdge
   pub is_first : c.border ≡ first ∷ rest
   pub tile : Found
   pub one_more : d.found ≡ c.found ++ tile ∷ []
-  pub across : LiesAcross (points_of t.order).real (TileOf t) (growing t f) (line_at t first) (name_of t f tile)
+  pub across : LiesAcross (points_of t.order).real (TileOf t) (growing t f) (line_at t first)
+      (name_of t f tile)
 
 -- a step was made from c to d, which is right for the frame, which was f and is g
 pub record HasStepped (t : Tiling) (f g : FrameValue) (c d : CoverValue) : Type 0 where

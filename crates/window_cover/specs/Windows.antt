@@ -47,13 +47,17 @@ IsOfFrame t f x = IsAmong x (frame_tiles (points_of t.order) t.rule (whole f))
 
 -- these are the tiles of the frame, at its own depth, that meet the window, each exactly once
 abbrev pub AreDrawn : (t : Tiling) → FrameValue → Window → List (TileOf t) → Type 0
-AreDrawn t f w tiles = AreAllThatMeet (points_of t.order).real (TileOf t) (frame_patch (points_of t.order) t.rule (whole f)) (box_of t w) tiles
+AreDrawn t f w tiles =
+    AreAllThatMeet (points_of t.order).real (TileOf t) (frame_patch (points_of t.order) t.rule (whole f))
+    (box_of t w) tiles
 
 -- each test point in the window belongs to exactly one of these tiles of the frame
 abbrev pub CoverWindow : (t : Tiling) → FrameValue → Window → List (TileOf t) → Type 0
-CoverWindow t f w tiles = Covers (points_of t.order).real (TileOf t) (frame_patch (points_of t.order) t.rule (whole f)) (box_of t w) tiles
+CoverWindow t f w tiles =
+    Covers (points_of t.order).real (TileOf t) (frame_patch (points_of t.order) t.rule (whole f)) (box_of t w)
+    tiles
 
 -- n is the least depth, from that of the frame to 64, that is enough: the frame's polygon there holds the
 -- centre, and none of its edges meets the window
-abbrev pub IsLeastEnough : (t : Tiling) → FrameValue → Window → ℕ → Type 0
-IsLeastEnough t f w n = IsLeastDepth (points_of t.order) t.rule (full t f) (box_of t w) (length f.digits) n
+abbrev pub IsLeastForWindow : (t : Tiling) → FrameValue → Window → ℕ → Type 0
+IsLeastForWindow t f w n = IsLeastDepth (points_of t.order) t.rule (full t f) (box_of t w) (length f.digits) n

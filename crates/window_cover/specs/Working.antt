@@ -34,7 +34,8 @@ state_of t f c =
     let names = map (name_of t f) c.found in
     record {
       found = names;
-      open_edges = open_edges_of (points_of t.order).real (box_of t c.window) (outlines (points_of t.order).real (TileOf t) (growing t f) names);
+      open_edges = open_edges_of (points_of t.order).real (box_of t c.window)
+          (outlines (points_of t.order).real (TileOf t) (growing t f) names);
       depth = length f.digits;
     }
 
@@ -58,5 +59,6 @@ pub record IsWorking (t : Tiling) (f : FrameValue) (c : Working) : Type 0 where
   pub window : IsWindow c.window
   pub found : AllByRecursion (IsFound t f) c.found
   pub not_too_many : length c.found ≤ most_tiles
-  pub state : IsRightState (points_of t.order).real (TileOf t) (growing t f) (box_of t c.window) (state_of t f c)
+  pub state : IsRightState (points_of t.order).real (TileOf t) (growing t f) (box_of t c.window)
+      (state_of t f c)
   pub border : AllZip (IsEdgeWaiting t) c.border (state_of t f c).open_edges

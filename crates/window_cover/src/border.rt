@@ -41,7 +41,8 @@ impl Model for Border {
 
     ghost view = { λ b. open_of b.listed.items };
 
-    ghost invariant = { λ b. IsBorder b.listed.items (hash.get have_same_ends b.places) (hash.hash_map_len b.places) b.next };
+    ghost invariant = { λ b. IsBorder b.listed.items (hash.get have_same_ends b.places)
+        (hash.hash_map_len b.places) b.next };
 }
 
 impl Border {

@@ -47,7 +47,8 @@ impl Model for Cover {
 
     ghost Value = { CoverValue };
 
-    ghost view = { λ c. record { window = c.window; found = found_in c.digits.items c.found.items; border = map unpacked c.border } };
+    ghost view = { λ c. record
+        { window = c.window; found = found_in c.digits.items c.found.items; border = map unpacked c.border } };
 
     ghost invariant = { λ c. IsKept c.digits.items c.found.items c.border };
 }

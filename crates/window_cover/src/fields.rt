@@ -4,7 +4,7 @@ ghost use Rattle.cyclo_points.specs.declared.motion.Motion.{Motion};
 ghost use Rattle.cyclo_points.specs.declared.point.Point.{Point};
 ghost use Rattle.std.specs.declared.option.Option.{Option};
 ghost use Rattle.tile_place.specs.Keys.{FitsKey};
-ghost use Rattle.window_cover.specs.Reach.{still};
+ghost use Rattle.window_cover.specs.Reach.{still_run};
 ghost use Rattle.window_cover.specs.Runs.{shifted_by};
 ghost use Rattle.window_cover.specs.Words.{AreFields, AreHeld, word_count, tile_word, tile_number};
 
@@ -71,7 +71,7 @@ impl Fields {
         requires shifts { AreFields shifts.now }
         ensures fields { IfSome result AreFields }
         ensures held { IfSome result (λ fields. (m : Motion) (kind : ℕ) (by : Option Point)
-            → AreHeld self.now m kind → AreHeld shifts.now (still by) 0
+            → AreHeld self.now m kind → AreHeld shifts.now (still_run by) 0
             → AreHeld fields (record { turn = m.turn; shift = shifted_by by m.shift }) kind) }
     {
         Some(Fields {

@@ -5,7 +5,7 @@ ghost use Rattle.rule_model.specs.declared.rule.Rule.{Rule};
 ghost use Rattle.rule_model.specs.Tiling.{tiling_of};
 ghost use Rattle.tile_place.specs.Searched.{placed_in};
 ghost use Rattle.lazy_walk.specs.Standing.{Stands};
-ghost use Rattle.window_cover.specs.Checked.{IsChecked};
+ghost use Rattle.window_cover.specs.Checked.{IsCheckedRule};
 ghost use Rattle.window_cover.specs.Covered.{placed_as};
 ghost use Rattle.window_cover.specs.InOrder.{AreInOrder, AreSorted, numbers_placed};
 ghost use Rattle.theory_windows.specs.Distinct.{AreDistinct};
@@ -35,14 +35,16 @@ impl Cover {
         ensures sorted { IfOk result (λ tiles. AreSorted tiles.items) }
         ensures as_many { IfOk result (λ tiles. length tiles.items ≡ length self.found) }
         // If the state is right for a rule, these are exactly the tiles of the frame that meet the window.
-        ensures drawn { IfOk result (λ tiles. (r : Rule) → IsChecked r → IsRight (tiling_of r) frame.now self
+        ensures drawn { IfOk result
+            (λ tiles. (r : Rule) → IsCheckedRule r → IsRight (tiling_of r) frame.now self
             → AreDrawn (tiling_of r) frame.now self.window (map (placed_in r.order) tiles.items)) }
-        ensures covered { IfOk result (λ tiles. (r : Rule) → IsChecked r
+        ensures covered { IfOk result (λ tiles. (r : Rule) → IsCheckedRule r
             → IsRight (tiling_of r) frame.now self
             → CoverWindow (tiling_of r) frame.now self.window (map (placed_in r.order) tiles.items)) }
-        ensures stand { IfOk result (λ tiles. (r : Rule) → IsChecked r → IsRight (tiling_of r) frame.now self
+        ensures stand { IfOk result
+            (λ tiles. (r : Rule) → IsCheckedRule r → IsRight (tiling_of r) frame.now self
             → All (Stands (tiling_of r) frame.now) tiles.items) }
-        ensures in_order { IfOk result (λ tiles. (r : Rule) → IsChecked r
+        ensures in_order { IfOk result (λ tiles. (r : Rule) → IsCheckedRule r
             → IsRight (tiling_of r) frame.now self → AreInOrder tiles.items) }
     {
         let tiles = self.arranged(alloc, frame)?;
@@ -59,14 +61,16 @@ impl Cover {
         ensures sorted { IfOk result (λ tiles. AreSorted tiles) }
         ensures as_many { IfOk result (λ tiles. length tiles ≡ length self.found) }
         // If the state is right for a rule, these are exactly the tiles of the frame that meet the window.
-        ensures drawn { IfOk result (λ tiles. (r : Rule) → IsChecked r → IsRight (tiling_of r) frame.now self
+        ensures drawn { IfOk result
+            (λ tiles. (r : Rule) → IsCheckedRule r → IsRight (tiling_of r) frame.now self
             → AreDrawn (tiling_of r) frame.now self.window (map (placed_in r.order) tiles)) }
-        ensures covered { IfOk result (λ tiles. (r : Rule) → IsChecked r
+        ensures covered { IfOk result (λ tiles. (r : Rule) → IsCheckedRule r
             → IsRight (tiling_of r) frame.now self
             → CoverWindow (tiling_of r) frame.now self.window (map (placed_in r.order) tiles)) }
-        ensures stand { IfOk result (λ tiles. (r : Rule) → IsChecked r → IsRight (tiling_of r) frame.now self
+        ensures stand { IfOk result
+            (λ tiles. (r : Rule) → IsCheckedRule r → IsRight (tiling_of r) frame.now self
             → All (Stands (tiling_of r) frame.now) tiles) }
-        ensures in_order { IfOk result (λ tiles. (r : Rule) → IsChecked r
+        ensures in_order { IfOk result (λ tiles. (r : Rule) → IsCheckedRule r
             → IsRight (tiling_of r) frame.now self → AreInOrder tiles) }
         // If no two tiles have the same place and kind, the order is strict.
         ensures distinct_in_order { IfOk result (λ tiles. AreDistinct (map numbers_placed tiles)

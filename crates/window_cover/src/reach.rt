@@ -5,7 +5,7 @@
 ghost use Rattle.std.specs.Prelude.{◌≡◌, ◌<◌, length, IfSome};
 ghost use Rattle.std.specs.List.{AllByRecursion};
 ghost use Rattle.tile_place.specs.Keys.{FitsKey};
-ghost use Rattle.window_cover.specs.Reach.{HoldEach, HoldRun, still};
+ghost use Rattle.window_cover.specs.Reach.{HoldEach, HoldRun, still_run};
 ghost use Rattle.window_cover.specs.Words.{AreFields};
 
 use crate::cover::{Cover, is_far};
@@ -69,7 +69,7 @@ impl Runs {
 
 /// Returns the motion of a run, or None if a coefficient of its shift is too large.
 fn motion_of(run: &Run) -> Option<Motion>
-    ensures motion { IfSome result (λ motion. motion ≡ still run.now.shift) }
+    ensures motion { IfSome result (λ motion. motion ≡ still_run run.now.shift) }
     ensures fits { IfSome result (λ motion. FitsKey motion 0) }
 {
     let shift = match run.shift {

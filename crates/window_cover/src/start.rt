@@ -5,9 +5,9 @@ ghost use Rattle.cyclo_points.specs.Point.{point_in};
 ghost use Rattle.theory_walks.specs.Containing.{FrameHolds};
 ghost use Rattle.theory_walks.specs.Frames.{at_depth, IsFrameOf, GrowsTo};
 ghost use Rattle.window_cover.specs.declared.cover_fault.CoverFault.TheVariants.{NoMemory};
-ghost use Rattle.window_cover.specs.Windows.{IsWindow, IsLeastEnough};
-ghost use Rattle.window_cover.specs.Limits.{IsWithinLimits};
-ghost use Rattle.window_cover.specs.Causes.{HasCause};
+ghost use Rattle.window_cover.specs.Windows.{IsWindow, IsLeastForWindow};
+ghost use Rattle.window_cover.specs.Limits.{IsCoverWithinLimits};
+ghost use Rattle.window_cover.specs.Causes.{HasCoverCause};
 ghost use Rattle.window_cover.specs.Right.{IsRight};
 ghost use Rattle.window_cover.specs.Searched.{HasBegun};
 
@@ -42,11 +42,11 @@ impl Cover {
         ensures least { (n : ℕ) → length frame.old.digits ≤ n → n < length frame.new.digits
             → ¬ FrameHolds (tiling_of machine.now) (at_depth (tiling_of machine.now) n frame.old)
             (point_in machine.now.order window.now.centre) }
-        ensures not_beyond { (n : ℕ) → IsLeastEnough (tiling_of machine.now) frame.old window.now n
+        ensures not_beyond { (n : ℕ) → IsLeastForWindow (tiling_of machine.now) frame.old window.now n
             → length frame.new.digits ≤ n }
-        ensures answered { IsWithinLimits (tiling_of machine.now) frame.old window.now
+        ensures answered { IsCoverWithinLimits (tiling_of machine.now) frame.old window.now
             → (result ≡ Err NoMemory) ⊎ IsOk result }
-        ensures cause { IfErr result (λ fault. HasCause (tiling_of machine.now) frame.old frame.new
+        ensures cause { IfErr result (λ fault. HasCoverCause (tiling_of machine.now) frame.old frame.new
             window.now fault) }
     {
         let checked = machine.checked();

@@ -4,9 +4,9 @@ ghost use Rattle.rule_model.specs.Tiling.{tiling_of};
 ghost use Rattle.theory_walks.specs.Frames.{FrameValue, IsFrameOf, GrowsTo};
 ghost use Rattle.window_cover.specs.declared.cover_fault.CoverFault.TheVariants.{NoMemory};
 ghost use Rattle.window_cover.specs.Found.{first_of};
-ghost use Rattle.window_cover.specs.Windows.{IsLeastEnough};
-ghost use Rattle.window_cover.specs.Limits.{IsWithinLimits};
-ghost use Rattle.window_cover.specs.Causes.{HasCause};
+ghost use Rattle.window_cover.specs.Windows.{IsLeastForWindow};
+ghost use Rattle.window_cover.specs.Limits.{IsCoverWithinLimits};
+ghost use Rattle.window_cover.specs.Causes.{HasCoverCause};
 ghost use Rattle.window_cover.specs.Right.{IsRight};
 ghost use Rattle.window_cover.specs.Stepping.{StepsTo, HasStepped, IsFirstOnBoundary};
 
@@ -41,7 +41,7 @@ fn counted_step<L: Ledger>(
     ensures least { (n : ℕ) → length frame.old.digits ≤ n → n < length frame.new.digits
         → IsFirstOnBoundary (tiling_of machine.now) frame.old cover.old n }
     ensures next { OnOk result (HasStepped (tiling_of machine.now) frame.old frame.new cover.old cover.new) }
-    ensures cause { IfErr result (λ fault. HasCause (tiling_of machine.now) frame.old frame.new
+    ensures cause { IfErr result (λ fault. HasCoverCause (tiling_of machine.now) frame.old frame.new
         cover.old.window fault) }
 {
     let mut steps = Steps::<L>::new(blank);
@@ -68,7 +68,7 @@ impl Cover {
             → IsFirstOnBoundary (tiling_of machine.now) frame.old self n }
         ensures steps_to { IfOk result (λ next. StepsTo (tiling_of machine.now) frame.old self next) }
         ensures right { IfOk result (λ next. IsRight (tiling_of machine.now) frame.new next) }
-        ensures cause { IfErr result (λ fault. HasCause (tiling_of machine.now) frame.old frame.new
+        ensures cause { IfErr result (λ fault. HasCoverCause (tiling_of machine.now) frame.old frame.new
             self.window fault) }
     {
         let mut next = self;
@@ -102,12 +102,12 @@ impl Cover {
             self.new) }
         // This holds for each frame of the same base and seed from which the search may have begun.
         ensures not_beyond { (f : FrameValue) (n : ℕ) → GrowsTo (tiling_of machine.now) f frame.old
-            → IsLeastEnough (tiling_of machine.now) f self.old.window n
+            → IsLeastForWindow (tiling_of machine.now) f self.old.window n
             → length frame.old.digits ≤ n → length frame.new.digits ≤ n }
         ensures within { (f : FrameValue) → GrowsTo (tiling_of machine.now) f frame.old
-            → IsWithinLimits (tiling_of machine.now) f self.old.window
+            → IsCoverWithinLimits (tiling_of machine.now) f self.old.window
             → (result ≡ Err NoMemory) ⊎ IsOk result }
-        ensures cause { IfErr result (λ fault. HasCause (tiling_of machine.now) frame.old frame.new
+        ensures cause { IfErr result (λ fault. HasCoverCause (tiling_of machine.now) frame.old frame.new
             self.old.window fault) }
     {
         let checked = machine.checked();

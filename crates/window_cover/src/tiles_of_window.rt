@@ -5,9 +5,9 @@ ghost use Rattle.tile_place.specs.Searched.{placed_in};
 ghost use Rattle.theory_walks.specs.Frames.{IsFrameOf, GrowsTo};
 ghost use Rattle.lazy_walk.specs.Standing.{Stands};
 ghost use Rattle.window_cover.specs.declared.cover_fault.CoverFault.TheVariants.{NoMemory};
-ghost use Rattle.window_cover.specs.Windows.{IsWindow, AreDrawn, CoverWindow, IsLeastEnough};
-ghost use Rattle.window_cover.specs.Limits.{IsWithinLimits};
-ghost use Rattle.window_cover.specs.Causes.{HasCause};
+ghost use Rattle.window_cover.specs.Windows.{IsWindow, AreDrawn, CoverWindow, IsLeastForWindow};
+ghost use Rattle.window_cover.specs.Limits.{IsCoverWithinLimits};
+ghost use Rattle.window_cover.specs.Causes.{HasCoverCause};
 ghost use Rattle.window_cover.specs.InOrder.{AreInOrder};
 ghost use Rattle.window_cover.specs.Answered.{IsAnswered};
 ghost use Rattle.window_cover.specs.Searched.{HasClosed};
@@ -64,21 +64,23 @@ pub fn cover(
         (map (placed_in machine.now.order) tiles.items)) }
     ensures stand { IfOk result (λ tiles. All (Stands (tiling_of machine.now) frame.new) tiles.items) }
     ensures in_order { IfOk result (λ tiles. AreInOrder tiles.items) }
-    ensures least { OnOk result (IsLeastEnough (tiling_of machine.now) frame.old window.now
+    ensures least { OnOk result (IsLeastForWindow (tiling_of machine.now) frame.old window.now
         (length frame.new.digits)) }
     ensures covered { IfOk result (λ tiles. CoverWindow (tiling_of machine.now) frame.new window.now
         (map (placed_in machine.now.order) tiles.items)) }
 
     // Even on an error the frame is no deeper than is enough for the window.
-    ensures not_beyond { (n : ℕ) → IsLeastEnough (tiling_of machine.now) frame.old window.now n
+    ensures not_beyond { (n : ℕ) → IsLeastForWindow (tiling_of machine.now) frame.old window.now n
         → length frame.new.digits ≤ n }
 
     // The call succeeds if and only if the window is within the limits, unless memory runs out. Each error
     // comes only for its cause.
-    ensures within { OnOk result (IsWithinLimits (tiling_of machine.now) frame.old window.now) }
-    ensures answered { IsWithinLimits (tiling_of machine.now) frame.old window.now → (result ≡ Err NoMemory)
+    ensures within { OnOk result (IsCoverWithinLimits (tiling_of machine.now) frame.old window.now) }
+    ensures answered { IsCoverWithinLimits (tiling_of machine.now) frame.old window.now
+        → (result ≡ Err NoMemory)
         ⊎ IsOk result }
-    ensures cause { IfErr result (λ fault. HasCause (tiling_of machine.now) frame.old frame.new window.now
+    ensures cause { IfErr result
+        (λ fault. HasCoverCause (tiling_of machine.now) frame.old frame.new window.now
         fault) }
 {
     let tiles = by_search(alloc, machine, frame, window)?;
@@ -104,21 +106,23 @@ pub fn covered_tiles(
         (map (placed_in machine.now.order) tiles)) }
     ensures stand { IfOk result (λ tiles. All (Stands (tiling_of machine.now) frame.new) tiles) }
     ensures in_order { IfOk result (λ tiles. AreInOrder tiles) }
-    ensures least { OnOk result (IsLeastEnough (tiling_of machine.now) frame.old window.now
+    ensures least { OnOk result (IsLeastForWindow (tiling_of machine.now) frame.old window.now
         (length frame.new.digits)) }
     ensures covered { IfOk result (λ tiles. CoverWindow (tiling_of machine.now) frame.new window.now
         (map (placed_in machine.now.order) tiles)) }
 
     // Even on an error the frame is no deeper than is enough for the window.
-    ensures not_beyond { (n : ℕ) → IsLeastEnough (tiling_of machine.now) frame.old window.now n
+    ensures not_beyond { (n : ℕ) → IsLeastForWindow (tiling_of machine.now) frame.old window.now n
         → length frame.new.digits ≤ n }
 
     // The call succeeds if and only if the window is within the limits, unless memory runs out. Each error
     // comes only for its cause.
-    ensures within { OnOk result (IsWithinLimits (tiling_of machine.now) frame.old window.now) }
-    ensures answered { IsWithinLimits (tiling_of machine.now) frame.old window.now → (result ≡ Err NoMemory)
+    ensures within { OnOk result (IsCoverWithinLimits (tiling_of machine.now) frame.old window.now) }
+    ensures answered { IsCoverWithinLimits (tiling_of machine.now) frame.old window.now
+        → (result ≡ Err NoMemory)
         ⊎ IsOk result }
-    ensures cause { IfErr result (λ fault. HasCause (tiling_of machine.now) frame.old frame.new window.now
+    ensures cause { IfErr result
+        (λ fault. HasCoverCause (tiling_of machine.now) frame.old frame.new window.now
         fault) }
 {
     let mut grown = frame.copy()?;
@@ -149,14 +153,16 @@ fn by_search(
     ensures found { IfOk result (IsAnswered (tiling_of machine.now) frame.old frame.new window.now) }
 
     // Even on an error the frame is no deeper than is enough for the window.
-    ensures not_beyond { (n : ℕ) → IsLeastEnough (tiling_of machine.now) frame.old window.now n
+    ensures not_beyond { (n : ℕ) → IsLeastForWindow (tiling_of machine.now) frame.old window.now n
         → length frame.new.digits ≤ n }
 
     // The call succeeds if and only if the window is within the limits, unless memory runs out. Each error
     // comes only for its cause.
-    ensures answered { IsWithinLimits (tiling_of machine.now) frame.old window.now → (result ≡ Err NoMemory)
+    ensures answered { IsCoverWithinLimits (tiling_of machine.now) frame.old window.now
+        → (result ≡ Err NoMemory)
         ⊎ IsOk result }
-    ensures cause { IfErr result (λ fault. HasCause (tiling_of machine.now) frame.old frame.new window.now
+    ensures cause { IfErr result
+        (λ fault. HasCoverCause (tiling_of machine.now) frame.old frame.new window.now
         fault) }
 {
     end_laws();
@@ -185,11 +191,13 @@ fn searched<L: Ledger>(
     requires window_fits { IsWindow window.now }
     ensures frame { GrowsTo (tiling_of machine.now) frame.old frame.new }
     ensures ended { IfOk result (HasClosed (tiling_of machine.now) frame.old frame.new window.now) }
-    ensures not_beyond { (n : ℕ) → IsLeastEnough (tiling_of machine.now) frame.old window.now n
+    ensures not_beyond { (n : ℕ) → IsLeastForWindow (tiling_of machine.now) frame.old window.now n
         → length frame.new.digits ≤ n }
-    ensures answered { IsWithinLimits (tiling_of machine.now) frame.old window.now → (result ≡ Err NoMemory)
+    ensures answered { IsCoverWithinLimits (tiling_of machine.now) frame.old window.now
+        → (result ≡ Err NoMemory)
         ⊎ IsOk result }
-    ensures cause { IfErr result (λ fault. HasCause (tiling_of machine.now) frame.old frame.new window.now
+    ensures cause { IfErr result
+        (λ fault. HasCoverCause (tiling_of machine.now) frame.old frame.new window.now
         fault) }
 {
     let mut steps = Steps::<L>::new(blank);

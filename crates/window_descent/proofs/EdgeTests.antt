@@ -13,7 +13,7 @@ use Rattle.tile_place.proofs.Ahead.{there, drop-next}
 use Rattle.plane_geom.specs.declared.window.Window.{Window}
 use Rattle.plane_geom.specs.Spots.{PlanePointOf, reals_of, spot_of, spots_of}
 use Rattle.theory_windows.specs.Outlines.{PlaneEdge, edges_from, edges}
-use Rattle.window_descent.specs.Inside.{IsInside}
+use Rattle.window_descent.specs.Inside.{IsWellInside}
 use Rattle.window_descent.specs.Standing.{window_box}
 
 -- two tests are one where each passes with the other
@@ -66,14 +66,15 @@ module _ (o : Order) (w : Window) where
   abbrev meets : PlaneEdge (reals_of o) → Bool
   meets e = box_test (reals_of o) e.from e.to (window_box o w)
 
-  from-vertex : (first : PlanePointOf o) (p : Point) (ps : List Point) (i : ℕ) (d : Point) → i < length (p ∷ ps) → IsInside o w (get_or (p ∷ ps) i d)
+  from-vertex : (first : PlanePointOf o) (p : Point) (ps : List Point) (i : ℕ) (d : Point) → i < length (p ∷ ps)
+      → IsWellInside o w (get_or (p ∷ ps) i d)
       → list_any meets (edges_from first (spot_of o p) (spots_of o ps)) ≡ true
   from-vertex first p [] zero d h is = ap (λ b. b || false) (is first)
   from-vertex first p [] (suc i) d h is = absurd (omega arith)
   from-vertex first p (q ∷ ps) zero d h is = ap (λ b. b || list_any meets (edges_from first (spot_of o q) (spots_of o ps))) (is (spot_of o q))
   from-vertex first p (q ∷ ps) (suc i) d h is = or_true _ _ (from-vertex first q ps i d (omega arith) is)
 
-  pub vertex-meets : (ps : List Point) (i : ℕ) (d : Point) → i < length ps → IsInside o w (get_or ps i d) → list_any meets (edges (spots_of o ps))
+  pub vertex-meets : (ps : List Point) (i : ℕ) (d : Point) → i < length ps → IsWellInside o w (get_or ps i d) → list_any meets (edges (spots_of o ps))
       ≡ true
   vertex-meets [] i d h is = absurd (omega arith)
   vertex-meets (p ∷ ps) i d h is = from-vertex (spot_of o p) p ps i d h is

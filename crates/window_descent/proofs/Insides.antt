@@ -18,7 +18,7 @@ use Rattle.cyclo_points.proofs.Reals.{sign_at, number-add, number-difference}
 use Rattle.cyclo_points.proofs.Within.{whole_is}
 use Rattle.cyclo_points.proofs.ShortWitness.{sign-witness}
 use Rattle.plane_geom.specs.declared.window.Window.{Window}
-use Rattle.window_descent.specs.Inside.{IsInside}
+use Rattle.window_descent.specs.Inside.{IsWellInside}
 
 -- ---- the sign of a + bθ
 positive : (o : Order) (a b : ℤ) → Within (2 ^ 25) a → Within (2 ^ 25) b → pos 0 <ℤ witness_in o a b → is_gt (sign_at o a b) ≡ true
@@ -129,7 +129,7 @@ pub inside-is : (o : Order) (w : Window) (p : Point) (wide high : RealOf o)
     → is_gt ((points_of o).real.sign ((points_of o).real.ops.add ((points_of o).real.ops.int (pos w.w)) wide)) ≡ true
     → is_gt ((points_of o).real.sign (difference (points_of o).real.ops ((points_of o).real.ops.int (pos w.h)) high)) ≡ true
     → is_gt ((points_of o).real.sign ((points_of o).real.ops.add ((points_of o).real.ops.int (pos w.h)) high)) ≡ true
-    → IsInside o w p
+    → IsWellInside o w p
 inside-is o w p wide high e f below_x above_x below_y above_y q =
     all_six _ _ _ _ _ _ (starts_both (points_of o).real _ _ bx ax) (starts_both (points_of o).real _ _ bx by)
     (starts_both (points_of o).real _ _ bx ay) (starts_both (points_of o).real _ _ ax by) (starts_both (points_of o).real _ _ ax ay)

@@ -17,7 +17,7 @@ use Rattle.plane_geom.specs.declared.window.Window.{Window}
 use Rattle.plane_geom.specs.Spots.{reals_of, spot_of}
 use Rattle.window_descent.specs.declared.bounds.Bounds.{Bounds}
 use Rattle.window_descent.specs.Standing.{window_box}
-use Rattle.window_descent.specs.Bounds.{witness_of, AreLimits, IsShort, IsBelow}
+use Rattle.window_descent.specs.Bounds.{witness_of, AreLimits, IsShortNumber, PassesBelow}
 use Rattle.window_descent.proofs.Insides.{tells-below, tells-above}
 
 -- ---- witnesses
@@ -27,7 +27,7 @@ witness-number Six a b = refl
 witness-number Eight a b = refl
 witness-number Ten a b = refl
 
-pub short-number : (o : Order) (n : ℕ) (a b : ℤ) → Within n a → Within n b → IsShort o n (number o a b)
+pub short-number : (o : Order) (n : ℕ) (a b : ℤ) → Within n a → Within n b → IsShortNumber o n (number o a b)
 short-number Four n a b f g = f
 short-number Six n a b f g = f
 short-number Eight n a b f g = (f, g)
@@ -48,7 +48,8 @@ witness-add Ten r s = omega (arith, ints)
 within-add : (a b : ℤ) → Within (2 ^ 23) a → Within (2 ^ 23) b → Within (2 ^ 24) (a +ℤ b)
 within-add a b f g = record { low = omega (arith, ints); high = omega (arith, ints) }
 
-short-add : (o : Order) (r s : RealOf o) → IsShort o (2 ^ 23) r → IsShort o (2 ^ 23) s → IsShort o (2 ^ 24) ((points_of o).real.ops.add r s)
+short-add : (o : Order) (r s : RealOf o) → IsShortNumber o (2 ^ 23) r → IsShortNumber o (2 ^ 23) s
+    → IsShortNumber o (2 ^ 24) ((points_of o).real.ops.add r s)
 short-add Four r s f g = within-add r s f g
 short-add Six r s f g = within-add r s f g
 short-add Eight r s f g = (within-add r.a s.a f.0 g.0, within-add r.b s.b f.1 g.1)
@@ -62,61 +63,61 @@ abbrev above_test : (o : Order) → ℕ → RealOf o → Bool
 above_test o n r = is_gt ((points_of o).real.sign ((points_of o).real.ops.add ((points_of o).real.ops.int (pos n)) r))
 
 module _ (o : Order) (n : ℕ) (few : n < 2 ^ 16) (a b : ℤ) (f : Within (2 ^ 24) a) (g : Within (2 ^ 24) b) where
-  below-parts : IsBelow (below_test o n (number o a b)) (witness_in o a b) (witness_in o (pos n) (pos 0))
+  below-parts : PassesBelow (below_test o n (number o a b)) (witness_in o a b) (witness_in o (pos n) (pos 0))
   below-parts = record {
     passes = λ h. sym (tells-below o n few a b f g (witness_in o a b) (witness_in o (pos n) (pos 0)) refl refl true (λ e. h) (λ e. absurd (cc e)));
     fails = λ h. sym (tells-below o n few a b f g (witness_in o a b) (witness_in o (pos n) (pos 0)) refl refl false (λ e. absurd (cc e)) (λ e. h));
   }
 
-  above-parts : IsBelow (above_test o n (number o a b)) (neg_ℤ (witness_in o (pos n) (pos 0))) (witness_in o a b)
+  above-parts : PassesBelow (above_test o n (number o a b)) (neg_ℤ (witness_in o (pos n) (pos 0))) (witness_in o a b)
   above-parts = record {
     passes = λ h. sym (tells-above o n few a b f g (witness_in o a b) (witness_in o (pos n) (pos 0)) refl refl true (λ e. h) (λ e. absurd (cc e)));
     fails = λ h. sym (tells-above o n few a b f g (witness_in o a b) (witness_in o (pos n) (pos 0)) refl refl false (λ e. absurd (cc e)) (λ e. h));
   }
 
-below-of : (o : Order) (n : ℕ) → n < 2 ^ 16 → (r : RealOf o) → IsShort o (2 ^ 24) r
-    → IsBelow (below_test o n r) (witness_of o r) (witness_in o (pos n) (pos 0))
+below-of : (o : Order) (n : ℕ) → n < 2 ^ 16 → (r : RealOf o) → IsShortNumber o (2 ^ 24) r
+    → PassesBelow (below_test o n r) (witness_of o r) (witness_in o (pos n) (pos 0))
 below-of Four n few r s = below-parts Four n few r (pos 0) s (zero_within (2 ^ 24))
 below-of Six n few r s = below-parts Six n few r (pos 0) s (zero_within (2 ^ 24))
 below-of Eight n few r s = below-parts Eight n few r.a r.b s.0 s.1
 below-of Ten n few r s = below-parts Ten n few r.a r.b s.0 s.1
 
-above-of : (o : Order) (n : ℕ) → n < 2 ^ 16 → (r : RealOf o) → IsShort o (2 ^ 24) r
-    → IsBelow (above_test o n r) (neg_ℤ (witness_in o (pos n) (pos 0))) (witness_of o r)
+above-of : (o : Order) (n : ℕ) → n < 2 ^ 16 → (r : RealOf o) → IsShortNumber o (2 ^ 24) r
+    → PassesBelow (above_test o n r) (neg_ℤ (witness_in o (pos n) (pos 0))) (witness_of o r)
 above-of Four n few r s = above-parts Four n few r (pos 0) s (zero_within (2 ^ 24))
 above-of Six n few r s = above-parts Six n few r (pos 0) s (zero_within (2 ^ 24))
 above-of Eight n few r s = above-parts Eight n few r.a r.b s.0 s.1
 above-of Ten n few r s = above-parts Ten n few r.a r.b s.0 s.1
 
 -- ---- a number that is shifted
-shift-limit : (x y z : ℤ) (t : Bool) (limit far : ℤ) → z ≡ x +ℤ far → y ≡ limit +ℤ neg_ℤ far → IsBelow t z limit → IsBelow t x y
+shift-limit : (x y z : ℤ) (t : Bool) (limit far : ℤ) → z ≡ x +ℤ far → y ≡ limit +ℤ neg_ℤ far → PassesBelow t z limit → PassesBelow t x y
 shift-limit x y z t limit far e f h = record {
   passes = λ l. h.passes (omega (arith, ints));
   fails = λ l. h.fails (omega (arith, ints));
 }
 
-shift-least : (x y z : ℤ) (t : Bool) (limit far : ℤ) → z ≡ x +ℤ far → y ≡ limit +ℤ neg_ℤ far → IsBelow t limit z → IsBelow t y x
+shift-least : (x y z : ℤ) (t : Bool) (limit far : ℤ) → z ≡ x +ℤ far → y ≡ limit +ℤ neg_ℤ far → PassesBelow t limit z → PassesBelow t y x
 shift-least x y z t limit far e f h = record {
   passes = λ l. h.passes (omega (arith, ints));
   fails = λ l. h.fails (omega (arith, ints));
 }
 
-module _ (o : Order) (n : ℕ) (few : n < 2 ^ 16) (far : RealOf o) (far-short : IsShort o (2 ^ 23) far) (x inner : RealOf o)
-    (x-short : IsShort o (2 ^ 23) x) (is : inner ≡ (points_of o).real.ops.add x far) where
+module _ (o : Order) (n : ℕ) (few : n < 2 ^ 16) (far : RealOf o) (far-short : IsShortNumber o (2 ^ 23) far) (x inner : RealOf o)
+    (x-short : IsShortNumber o (2 ^ 23) x) (is : inner ≡ (points_of o).real.ops.add x far) where
   sum-witness : witness_of o inner ≡ witness_of o x +ℤ witness_of o far
   sum-witness = ap (witness_of o) is ∙ witness-add o x far
 
-  sum-short : IsShort o (2 ^ 24) inner
-  sum-short = subst (IsShort o (2 ^ 24)) (sym is) (short-add o x far x-short far-short)
+  sum-short : IsShortNumber o (2 ^ 24) inner
+  sum-short = subst (IsShortNumber o (2 ^ 24)) (sym is) (short-add o x far x-short far-short)
 
   pub below-limit : (limit : ℤ) → limit ≡ witness_in o (pos n) (pos 0) +ℤ neg_ℤ (witness_of o far)
-      → IsBelow (below_test o n inner) (witness_of o x) limit
+      → PassesBelow (below_test o n inner) (witness_of o x) limit
   below-limit limit e =
       shift-limit (witness_of o x) limit (witness_of o inner) (below_test o n inner) (witness_in o (pos n) (pos 0)) (witness_of o far) sum-witness e
       (below-of o n few inner sum-short)
 
   pub above-limit : (limit : ℤ) → limit ≡ neg_ℤ (witness_in o (pos n) (pos 0)) +ℤ neg_ℤ (witness_of o far)
-      → IsBelow (above_test o n inner) limit (witness_of o x)
+      → PassesBelow (above_test o n inner) limit (witness_of o x)
   above-limit limit e =
       shift-least (witness_of o x) limit (witness_of o inner) (above_test o n inner)
       (neg_ℤ (witness_in o (pos n) (pos 0))) (witness_of o far) sum-witness e
@@ -134,7 +135,7 @@ module _ (P : Points) (W : PointLaws P) (z s c : P.ring.carrier) where
 module _ (o : Order) (w : Window) (few_w : w.w < 2 ^ 16) (few_h : w.h < 2 ^ 16) (shift : Point) (across along : RealOf o)
     (across-is : across ≡ difference (reals_of o).ops (spot_of o shift).x (window_box o w).centre.x)
     (along-is : along ≡ difference (reals_of o).ops (spot_of o shift).y (window_box o w).centre.y)
-    (across-short : IsShort o (2 ^ 23) across) (along-short : IsShort o (2 ^ 23) along) (b : Bounds)
+    (across-short : IsShortNumber o (2 ^ 23) across) (along-short : IsShortNumber o (2 ^ 23) along) (b : Bounds)
     (right : b.right ≡ witness_in o (pos w.w) (pos 0) +ℤ neg_ℤ (witness_of o across))
     (left : b.left ≡ neg_ℤ (witness_in o (pos w.w) (pos 0)) +ℤ neg_ℤ (witness_of o across))
     (upper : b.upper ≡ witness_in o (pos w.h) (pos 0) +ℤ neg_ℤ (witness_of o along))
@@ -150,16 +151,16 @@ module _ (o : Order) (w : Window) (few_w : w.w < 2 ^ 16) (few_h : w.h < 2 ^ 16) 
 
   pub limits-are : AreLimits o w shift b
   limits-are = record {
-    right = λ z short. below-limit o w.w few_w far_x (subst (IsShort o (2 ^ 23)) across-is across-short) (P.x z) _ short
+    right = λ z short. below-limit o w.w few_w far_x (subst (IsShortNumber o (2 ^ 23)) across-is across-short) (P.x z) _ short
         (x-shifted P (laws_of o) z (point_in o shift) (point_in o w.centre)) b.right
         (right ∙ ap (λ r. witness_in o (pos w.w) (pos 0) +ℤ neg_ℤ (witness_of o r)) across-is);
-    left = λ z short. above-limit o w.w few_w far_x (subst (IsShort o (2 ^ 23)) across-is across-short) (P.x z) _ short
+    left = λ z short. above-limit o w.w few_w far_x (subst (IsShortNumber o (2 ^ 23)) across-is across-short) (P.x z) _ short
         (x-shifted P (laws_of o) z (point_in o shift) (point_in o w.centre)) b.left
         (left ∙ ap (λ r. neg_ℤ (witness_in o (pos w.w) (pos 0)) +ℤ neg_ℤ (witness_of o r)) across-is);
-    upper = λ z short. below-limit o w.h few_h far_y (subst (IsShort o (2 ^ 23)) along-is along-short) (P.y z) _ short
+    upper = λ z short. below-limit o w.h few_h far_y (subst (IsShortNumber o (2 ^ 23)) along-is along-short) (P.y z) _ short
         (y-shifted P (laws_of o) z (point_in o shift) (point_in o w.centre)) b.upper
         (upper ∙ ap (λ r. witness_in o (pos w.h) (pos 0) +ℤ neg_ℤ (witness_of o r)) along-is);
-    lower = λ z short. above-limit o w.h few_h far_y (subst (IsShort o (2 ^ 23)) along-is along-short) (P.y z) _ short
+    lower = λ z short. above-limit o w.h few_h far_y (subst (IsShortNumber o (2 ^ 23)) along-is along-short) (P.y z) _ short
         (y-shifted P (laws_of o) z (point_in o shift) (point_in o w.centre)) b.lower
         (lower ∙ ap (λ r. neg_ℤ (witness_in o (pos w.h) (pos 0)) +ℤ neg_ℤ (witness_of o r)) along-is);
   }

@@ -35,7 +35,7 @@ use Rattle.window_descent.specs.declared.part.Part.{Part}
 use Rattle.window_descent.specs.declared.standing.Standing.{Standing}
 use Rattle.window_descent.specs.declared.standing.Standing.TheVariants.{Beyond, Within, Across}
 use Rattle.window_descent.specs.Standing.{window_box}
-use Rattle.window_descent.specs.Bounds.{AreBounds, AreLimits, IsBetween, IsEnclosed, shifted_spot, witness_of}
+use Rattle.window_descent.specs.Bounds.{AreBounds, AreLimits, LiesBetween, IsEnclosed, shifted_spot, witness_of}
 use Rattle.window_descent.specs.Parts.{IsPlacedPart, IsPlacedBy, only_turned}
 use Rattle.window_descent.proofs.RowsMade.{origin-zero}
 
@@ -109,7 +109,7 @@ module _ (m : Rule) (settled : IsSettled m) (w : Window) (level : ℕ) (p : Part
       (λ z k. (kept.lower z k.short_y).fails (let l = k.upper in omega (arith, ints)))))
 
   -- ---- within all
-  within : IsBetween b limits Within
+  within : LiesBetween b limits Within
       → IsWithinBox (reals_of m.order) (window_box m.order w) (part_polygon P (rule_of m) p.kind level (motion_in m.order p.motion))
   within h =
       let right = h.right in
@@ -124,7 +124,7 @@ module _ (m : Rule) (settled : IsSettled m) (w : Window) (level : ℕ) (p : Part
         lower = (kept.lower z k.short_y).passes (let l = k.lower in omega (arith, ints));
       })
 
-  pub placed-between : (s : Standing) → IsBetween b limits s → (s ≡ Across → 0 < level) → IsPlacedBy (tiling_of m) w level p s
+  pub placed-between : (s : Standing) → LiesBetween b limits s → (s ≡ Across → 0 < level) → IsPlacedBy (tiling_of m) w level p s
   placed-between Beyond h l =
       law.pruned_law P (laws_of m.order) (divisors_of m.order) (its_rule m settled) (window_box m.order w) wide high p.kind level
       (motion_in m.order p.motion) is.kind_exists is.turn_below (beyond h)

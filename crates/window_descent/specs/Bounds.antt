@@ -31,16 +31,16 @@ witness_of Eight r = witness_in Eight r.a r.b
 witness_of Ten r = witness_in Ten r.a r.b
 
 -- the parts of a number are at most n in absolute value
-abbrev pub IsShort : (o : Order) → ℕ → RealOf o → Type 0
-IsShort Four n r = Within n r
-IsShort Six n r = Within n r
-IsShort Eight n r = Within n r.a × Within n r.b
-IsShort Ten n r = Within n r.a × Within n r.b
+abbrev pub IsShortNumber : (o : Order) → ℕ → RealOf o → Type 0
+IsShortNumber Four n r = Within n r
+IsShortNumber Six n r = Within n r
+IsShortNumber Eight n r = Within n r.a × Within n r.b
+IsShortNumber Ten n r = Within n r.a × Within n r.b
 
 -- X and Y of the point are short, and their witnesses are within the bounds
 pub record IsEnclosed (o : Order) (b : Bounds) (v : PlanePointOf o) : Type 0 where
-  pub short_x : IsShort o (2 ^ 23) v.x
-  pub short_y : IsShort o (2 ^ 23) v.y
+  pub short_x : IsShortNumber o (2 ^ 23) v.x
+  pub short_y : IsShortNumber o (2 ^ 23) v.y
   pub right : witness_of o v.x ≤ℤ b.right
   pub left : b.left ≤ℤ witness_of o v.x
   pub upper : witness_of o v.y ≤ℤ b.upper
@@ -49,10 +49,11 @@ pub record IsEnclosed (o : Order) (b : Bounds) (v : PlanePointOf o) : Type 0 whe
 -- this holds for each vertex of a scaled prototile that is turned and not shifted
 abbrev pub AreBounds : Rule → Point → ℕ → ℕ → Bounds → Type 0
 AreBounds m scale kind turn b = AllByRecursion (λ z. IsEnclosed m.order b (plane_point (points_of m.order) z))
-    (outline (points_of m.order) (rule_of m) kind (point_in m.order scale) (motion_in m.order (only_turned turn)))
+    (outline (points_of m.order) (rule_of m) kind (point_in m.order scale)
+    (motion_in m.order (only_turned turn)))
 
 -- a test passes exactly if one integer is below another
-pub record IsBelow (test : Bool) (x y : ℤ) : Type 0 where
+pub record PassesBelow (test : Bool) (x y : ℤ) : Type 0 where
   pub passes : x <ℤ y → test ≡ true
   pub fails : y ≤ℤ x → test ≡ false
 
@@ -63,17 +64,17 @@ shifted_spot o shift z = plane_point (points_of o) ((points_of o).ring.add z (po
 -- The limits for the witnesses of a point: it keeps within one if and only if the shifted point is inside
 -- that side of the window.
 pub record AreLimits (o : Order) (w : Window) (shift : Point) (b : Bounds) : Type 0 where
-  pub right : (z : NumberOf o) → IsShort o (2 ^ 23) ((points_of o).x z)
-      → IsBelow (inside_right (reals_of o) (window_box o w) (shifted_spot o shift z))
+  pub right : (z : NumberOf o) → IsShortNumber o (2 ^ 23) ((points_of o).x z)
+      → PassesBelow (inside_right (reals_of o) (window_box o w) (shifted_spot o shift z))
       (witness_of o ((points_of o).x z)) b.right
-  pub left : (z : NumberOf o) → IsShort o (2 ^ 23) ((points_of o).x z)
-      → IsBelow (inside_left (reals_of o) (window_box o w) (shifted_spot o shift z))
+  pub left : (z : NumberOf o) → IsShortNumber o (2 ^ 23) ((points_of o).x z)
+      → PassesBelow (inside_left (reals_of o) (window_box o w) (shifted_spot o shift z))
       b.left (witness_of o ((points_of o).x z))
-  pub upper : (z : NumberOf o) → IsShort o (2 ^ 23) ((points_of o).y z)
-      → IsBelow (inside_upper (reals_of o) (window_box o w) (shifted_spot o shift z))
+  pub upper : (z : NumberOf o) → IsShortNumber o (2 ^ 23) ((points_of o).y z)
+      → PassesBelow (inside_upper (reals_of o) (window_box o w) (shifted_spot o shift z))
       (witness_of o ((points_of o).y z)) b.upper
-  pub lower : (z : NumberOf o) → IsShort o (2 ^ 23) ((points_of o).y z)
-      → IsBelow (inside_lower (reals_of o) (window_box o w) (shifted_spot o shift z))
+  pub lower : (z : NumberOf o) → IsShortNumber o (2 ^ 23) ((points_of o).y z)
+      → PassesBelow (inside_lower (reals_of o) (window_box o w) (shifted_spot o shift z))
       b.lower (witness_of o ((points_of o).y z))
 
 -- the bounds are within all limits
@@ -84,8 +85,8 @@ pub record AreWithin (b limits : Bounds) : Type 0 where
   pub lower : limits.lower <ℤ b.lower
 
 -- how bounds lie to limits: beyond one of them, or within all; otherwise they leave it open
-abbrev pub IsBetween : Bounds → Bounds → Standing → Type 0
-IsBetween b limits Beyond = ((limits.right ≤ℤ b.left) ⊎ (b.right ≤ℤ limits.left))
+abbrev pub LiesBetween : Bounds → Bounds → Standing → Type 0
+LiesBetween b limits Beyond = ((limits.right ≤ℤ b.left) ⊎ (b.right ≤ℤ limits.left))
     ⊎ ((limits.upper ≤ℤ b.lower) ⊎ (b.upper ≤ℤ limits.lower))
-IsBetween b limits Inside = AreWithin b limits
-IsBetween b limits Across = Unit {0}
+LiesBetween b limits Inside = AreWithin b limits
+LiesBetween b limits Across = Unit {0}

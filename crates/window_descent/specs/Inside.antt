@@ -8,6 +8,6 @@ use Rattle.plane_geom.specs.declared.window.Window.{Window}
 use Rattle.window_descent.specs.Standing.{window_box}
 
 -- every edge from the point meets the window
-abbrev pub IsInside : Order → Window → Point → Type 0
-IsInside o w p = (q : PlanePointOf o)
+abbrev pub IsWellInside : Order → Window → Point → Type 0
+IsWellInside o w p = (q : PlanePointOf o)
     → box_test (reals_of o) (spot_of o p) q (window_box o w) ≡ true

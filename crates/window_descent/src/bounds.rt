@@ -8,7 +8,7 @@ ghost use Rattle.cyclo_points.specs.Point.{IsWithin, Within};
 ghost use Rattle.cyclo_points.specs.Real.{real_in, IsRealWithin};
 ghost use Rattle.cyclo_points.specs.Witness.{witness_in};
 ghost use Rattle.plane_geom.specs.Spots.{PlanePointOf, spot_of};
-ghost use Rattle.window_descent.specs.Bounds.{witness_of, IsShort, IsEnclosed, AreLimits, AreWithin, IsBetween};
+ghost use Rattle.window_descent.specs.Bounds.{witness_of, IsShortNumber, IsEnclosed, AreLimits, AreWithin, LiesBetween};
 ghost use Rattle.window_descent.specs.declared.standing.Standing.TheVariants as Standing;
 
 use crate::sides::{high_of, wide_of};
@@ -100,7 +100,7 @@ impl Bounds {
 
     /// Finds how a polygon with these bounds lies relative to a window with these limits.
     pub(crate) fn beside(&self, limits: &Bounds) -> Standing
-        ensures { IsBetween self.now limits.now result }
+        ensures { LiesBetween self.now limits.now result }
     {
         if self.is_beyond(limits) {
             return Standing::Beyond;
@@ -113,7 +113,7 @@ impl Bounds {
 
     /// Returns true if the bounds are beyond one of the limits.
     fn is_beyond(&self, limits: &Bounds) -> bool
-        ensures { IsTrue result → IsBetween self.now limits.now Standing.Beyond }
+        ensures { IsTrue result → LiesBetween self.now limits.now Standing.Beyond }
     {
         limits.right <= self.left
             || self.right <= limits.left
@@ -150,7 +150,7 @@ fn extent_witness(order: Order, extent: u16) -> i64
 /// Returns the witness of a number, or None if the number is long.
 fn short_witness(order: Order, r: &Real) -> Option<i64>
     requires within { IsRealWithin (2 ^ 28) r.now }
-    ensures short { IfSome result (λ n. IsShort order (2 ^ 23) (real_in order r.now)) }
+    ensures short { IfSome result (λ n. IsShortNumber order (2 ^ 23) (real_in order r.now)) }
     ensures value { IfSome result (λ n. n ≡ witness_of order (real_in order r.now)) }
     ensures small { IfSome result (Within (2 ^ 52)) }
 {

@@ -5,7 +5,7 @@ ghost use Rattle.theory_ring.specs.Ring.{difference};
 ghost use Rattle.cyclo_points.specs.Order.{points_of};
 ghost use Rattle.cyclo_points.specs.Point.{IsWithin};
 ghost use Rattle.cyclo_points.specs.Real.{real_in, IsRealWithin};
-ghost use Rattle.window_descent.specs.Inside.{IsInside};
+ghost use Rattle.window_descent.specs.Inside.{IsWellInside};
 
 use cyclo_points::coordinates::{x, y};
 use cyclo_points::order::Order;
@@ -23,7 +23,7 @@ const GREATEST_PART: i64 = 1 << 24;
 pub fn is_inside(order: Order, window: &Window, p: &Point) -> bool
     requires p_within { IsWithin (2 ^ 25) p.now }
     requires centre_within { IsWithin (2 ^ 25) window.now.centre }
-    ensures { IsTrue result → IsInside order window.now p.now }
+    ensures { IsTrue result → IsWellInside order window.now p.now }
 {
     let wide = rsub(&x(order, p), &x(order, &window.centre));
     let high = rsub(&y(order, p), &y(order, &window.centre));

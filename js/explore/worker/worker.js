@@ -23,9 +23,13 @@ async function drawableOf(name) {
 }
 
 const questions = {
-  /** The engine as the page has it, and the rules that there are. */
-  begin({ engine: packed, rules: given }) {
+  /** The engine as the page has it. */
+  begin({ engine: packed }) {
     engine = bytesOf(packed).then((bytes) => Engine.load(bytes));
+  },
+
+  /** The rules that the page has. */
+  have({ rules: given }) {
     for (const { name, ...rule } of given) rules.set(name, rule);
   },
 

@@ -1,6 +1,6 @@
 use Rattle.std.proofs.Common.{ap, ◌∙◌, subst}
 use Rattle.theory_addresses.specs.Coherent.{IsCoherent}
-use Rattle.pair_machine.specs.Verdicts.{IsVerdict}
+use Rattle.pair_machine.specs.Verdicts.{IsPairVerdict}
 use Rattle.rule_model.specs.declared.rule.Rule.{Rule}
 use Rattle.rule_model.specs.Tiling.{tiling_of, contacts}
 use Rattle.tile_place.proofs.Plane.{OnlyTilesLaw, IsSettled}
@@ -23,4 +23,4 @@ returns c =
     ∙ ap (λ (r : Rule). contacts (tiling_of r)) c.checked-2.ensures.rule)
     c.kinds-coherent.ensures.coherent in
     related m settled law coherent a b c.requires.one_fits c.requires.other_fits c.decide.result
-    (subst (λ t. IsVerdict t a b c.decide.result) c.requires.tables c.decide.ensures.verdict)
+    (subst (λ t. IsPairVerdict t a b c.decide.result) c.requires.tables c.decide.ensures.verdict)

@@ -4,7 +4,7 @@ use Rattle.std.proofs.lemmas.List.{map_push, length_push, length-map}
 use Rattle.std.proofs.lemmas.List.Elements.{All-filter}
 use Rattle.std.proofs.lemmas.Bool.{ne_eqb}
 use Rattle.theory_substitution.specs.RuleParts.{parts}
-use Rattle.theory_edge_to_edge.specs.Contacts.{name_of}
+use Rattle.theory_edge_to_edge.specs.Contacts.{edge_name}
 use Rattle.cyclo_points.specs.Order.{points_of}
 use Rattle.cyclo_points.specs.Point.{point_in}
 use Rattle.edge_tables.specs.Views.{as_child_edge}
@@ -24,7 +24,7 @@ loop-part-preserved c =
     let p = point_in o c.loop-part.from in
     let s = edge_in o c.in-One.next in
     let names = map as_child_edge c.loop-part.names.items in
-    let more : map as_child_edge c.push.new.self.items ≡ names ++ name_of s ∷ [] =
+    let more : map as_child_edge c.push.new.self.items ≡ names ++ edge_name s ∷ [] =
     ap (map as_child_edge) c.in_ok-push.ensures.items
     ∙ map_push as_child_edge c.loop-part.names.items c.name.result
     ∙ ap (λ n. names ++ n ∷ []) (c.name.ensures o) in

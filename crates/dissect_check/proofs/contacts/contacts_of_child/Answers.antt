@@ -6,7 +6,7 @@ use Rattle.std.proofs.lemmas.Slice.Zip.{zip_turn, zip_end}
 use Rattle.theory_edge_to_edge.specs.Edges as theory
 use Rattle.theory_edge_to_edge.specs.Lying.{lie_of}
 use Rattle.theory_addresses.specs.Contact as theory_contact
-use Rattle.theory_edge_to_edge.specs.Contacts.{name_of, contact_by}
+use Rattle.theory_edge_to_edge.specs.Contacts.{edge_name, contact_by}
 use Rattle.cyclo_points.specs.Order.{NumberOf, points_of}
 use Rattle.edge_tables.specs.declared.contact.Contact.{Contact}
 use Rattle.edge_tables.specs.Views.{as_contact}
@@ -24,19 +24,19 @@ use Rattle.dissect_check.proofs.contacts.contacts_of_child.Goals as goal
 module _ (r : Rule) (k : ℕ) (i : Inflated) (fact : IsInflated r k i) (child : ℕ) where
   -- what an edge is
   abbrev what : theory.PlacedEdge (NumberOf r.order) → theory_contact.Contact
-  what s = contact_by (points_of r.order) (rule_of r) k (name_of s) (lie_of (points_of r.order) (rule_of r) k s)
+  what s = contact_by (points_of r.order) (rule_of r) k (edge_name s) (lie_of (points_of r.order) (rule_of r) k s)
 
   abbrev own : List PlacedEdge → List (theory.PlacedEdge (NumberOf r.order))
   own edges = filter (is_of_child (points_of r.order) (rule_of r) k child) (map (edge_in r.order) edges)
 
   more : (n m : ℕ) (s : PlacedEdge) (l : Lie) (x : Contact) (contacts new : List Contact) → IsAt i n s l → m ≡ n + 1 → nat_eq s.child child ≡ true
-      → as_contact x ≡ contact_by (points_of r.order) (rule_of r) k (name_of (edge_in r.order s)) (as_lie l)
+      → as_contact x ≡ contact_by (points_of r.order) (rule_of r) k (edge_name (edge_in r.order s)) (as_lie l)
       → map as_contact contacts ≡ map what (own (take n i.edges.items)) → new ≡ contacts ++ x ∷ []
       → map as_contact new ≡ map what (own (take m i.edges.items))
   more n m s l x contacts new at long h is so_far e =
       ap (map as_contact) e ∙ map_push as_contact contacts x
       ∙ ap (λ y. map as_contact contacts ++ y ∷ [])
-      (is ∙ ap (contact_by (points_of r.order) (rule_of r) k (name_of (edge_in r.order s)))
+      (is ∙ ap (contact_by (points_of r.order) (rule_of r) k (edge_name (edge_in r.order s)))
       (lie_at r k i fact n s l at.edge_there at.lie_there (at.edge s) (at.lie l)))
       ∙ ap (λ ys. ys ++ what (edge_in r.order s) ∷ []) so_far
       ∙ sym (map_push what (own (take n i.edges.items)) (edge_in r.order s))

@@ -4,10 +4,10 @@ use Rattle.std.proofs.lemmas.List.{length-map}
 use Rattle.std.proofs.lemmas.Result.{IfOk-weaker}
 use Rattle.tile_place.specs.declared.order_key.OrderKey.{OrderKey}
 use Rattle.half_glue.specs.declared.whole_tile.WholeTile.{WholeTile}
-use Rattle.half_glue.specs.Arranged.{AreArranged}
-use Rattle.half_glue.specs.InOrder.{AreInOrder}
+use Rattle.half_glue.specs.Arranged.{AreWholesArranged}
+use Rattle.half_glue.specs.InOrder.{AreWholesInOrder}
 use Rattle.theory_addresses.specs.Search.{chosen_below}
-use Rattle.half_glue.specs.Keys.{first_keys, is_new, whole_at}
+use Rattle.half_glue.specs.Keys.{first_keys, is_new_key, whole_at}
 use Rattle.half_glue.specs.Lifted.{whole_of, wholes_of}
 use Rattle.half_glue.proofs.Chosen.{arranged-in_order, arranged-same, arranged-numbered}
 use Rattle.half_glue.proofs.Firsts.{firsts-fit, no_whole}
@@ -32,8 +32,8 @@ returns-clause-in_order c =
     (c.in_ok-keys.ensures c.args.frame.now) c.sort_unstable.ensures.permutation in
     let fit = firsts-fit c.args.frame.now (c.args.tiles.now ++ c.args.made.now.crossed.items)
     c.args.made.now.pairs.items c.requires.fit c.requires.numbered in
-    IfOk-weaker c.picked.result _ _ (λ wholes h. subst AreInOrder
-    (sym (h no_whole ∙ ap (λ (xs : List OrderKey). chosen_below (is_new xs) (whole_at made no_whole xs)
+    IfOk-weaker c.picked.result _ _ (λ wholes h. subst AreWholesInOrder
+    (sym (h no_whole ∙ ap (λ (xs : List OrderKey). chosen_below (is_new_key xs) (whole_at made no_whole xs)
     (length xs)) c.as_slice.ensures.value))
     (arranged-in_order made fit ks mixed c.sort_unstable.ensures.sorted no_whole)) c.picked.ensures
 
@@ -45,7 +45,7 @@ returns-clause-same c =
     (c.in_ok-keys.ensures c.args.frame.now) c.sort_unstable.ensures.permutation in
     let fit = firsts-fit c.args.frame.now (c.args.tiles.now ++ c.args.made.now.crossed.items)
     c.args.made.now.pairs.items c.requires.fit c.requires.numbered in
-    IfOk-weaker c.picked.result _ _ (λ wholes h. subst (AreArranged made)
-    (sym (h no_whole ∙ ap (λ (xs : List OrderKey). chosen_below (is_new xs) (whole_at made no_whole xs)
+    IfOk-weaker c.picked.result _ _ (λ wholes h. subst (AreWholesArranged made)
+    (sym (h no_whole ∙ ap (λ (xs : List OrderKey). chosen_below (is_new_key xs) (whole_at made no_whole xs)
     (length xs)) c.as_slice.ensures.value))
     (arranged-same made fit ks mixed c.sort_unstable.ensures.sorted no_whole)) c.picked.ensures

@@ -5,7 +5,7 @@ use Rattle.tile_place.specs.declared.order_key.OrderKey.{OrderKey}
 use Rattle.tile_place.specs.declared.placed_tile.PlacedTile.{PlacedTile}
 use Rattle.half_glue.specs.declared.pairs.Pair.{Pair}
 use Rattle.half_glue.specs.declared.whole_tile.WholeTile.{WholeTile}
-use Rattle.half_glue.specs.Found.{tile_of}
+use Rattle.half_glue.specs.Found.{given_tile}
 use Rattle.half_glue.specs.Keys.{first_keys}
 use Rattle.half_glue.specs.Lifted.{wholes_of}
 use Rattle.half_glue.proofs.Firsts.{first-more}
@@ -21,7 +21,7 @@ loop-number-preserved c = λ f.
     c.in_ok-push.ensures.items ∙ ap (λ (ks : List OrderKey). ks ++ c.of.result ∷ []) (c.loop-number.invariant f)
     ∙ ap (λ (key : OrderKey). first_keys (take k wholes) ++ key ∷ [])
     (c.of.ensures ∙ ap (λ (x : PlacedTile). key_of x.motion x.kind k)
-    (c.tile_of-first.ensures ∙ ap (λ (xs : List PlacedTile). tile_of (c.args.tiles.now ++ xs) p.first)
+    (c.tile_of-first.ensures ∙ ap (λ (xs : List PlacedTile). given_tile (c.args.tiles.now ++ xs) p.first)
     c.as_slice.ensures.value))
     ∙ sym (first-more f all pairs k p (omega (
       arith,

@@ -3,7 +3,7 @@ use Rattle.tile_place.specs.declared.placed_tile.PlacedTile.{PlacedTile}
 use Rattle.half_glue.specs.declared.pairs.Pair.{Pair}
 use Rattle.half_glue.specs.declared.whole_tile.WholeTile.{WholeTile}
 use Rattle.theory_addresses.specs.Search.{chosen_below}
-use Rattle.half_glue.specs.Keys.{no_key, is_new, whole_at}
+use Rattle.half_glue.specs.Keys.{no_key, is_new_key, whole_at}
 use Rattle.half_glue.specs.Lifted.{whole_of, wholes_of}
 use Rattle.half_glue.proofs.Firsts.{whole-there}
 use Rattle.half_glue.proofs.Keyed.{chosen-more}
@@ -26,14 +26,14 @@ loop-place-preserved c = λ blank.
           ∙ sym (whole-there c.args.frame.now all pairs (get_or ks n no_key).number p below w.index-pair.ensures blank) in
           ap (λ v. v.items) w.wholes-is ∙ w.in_ok-push.ensures.items
           ∙ ap₂ (λ (ws : List WholeTile) (v : WholeTile). ws ++ v ∷ []) (c.loop-place.invariant blank) one
-          ∙ sym (chosen-more (is_new ks) (whole_at made blank ks) n true (sym c.is_new.ensures ∙ w.if-is_new.true))
+          ∙ sym (chosen-more (is_new_key ks) (whole_at made blank ks) n true (sym c.is_new.ensures ∙ w.if-is_new.true))
       | else-is_new w ↦
           ap (λ v. v.items) w.wholes-is ∙ c.loop-place.invariant blank ∙ sym (append-nil _)
-          ∙ sym (chosen-more (is_new ks) (whole_at made blank ks) n false (sym c.is_new.ensures ∙ w.if-is_new.false))
+          ∙ sym (chosen-more (is_new_key ks) (whole_at made blank ks) n false (sym c.is_new.ensures ∙ w.if-is_new.false))
     ]
 
 pub returns : goal.returns
 returns c = λ blank.
     let made : List WholeTile = wholes_of c.args.frame.now (c.args.tiles.now ++ c.args.made.now.crossed.items) c.args.made.now.pairs.items in
     let all_done : c.loop-place.place ≡ length c.args.keys.now = omega (arith, c.loop-place-test.false, c.loop-place.auto.place-end) in
-    c.loop-place.invariant blank ∙ ap (chosen_below (is_new c.args.keys.now) (whole_at made blank c.args.keys.now)) all_done
+    c.loop-place.invariant blank ∙ ap (chosen_below (is_new_key c.args.keys.now) (whole_at made blank c.args.keys.now)) all_done

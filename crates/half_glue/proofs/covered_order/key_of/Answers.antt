@@ -2,8 +2,8 @@ use Rattle.std.proofs.Common.{◌≡◌, ℕ, ◌<◌, ◌++◌, length, sym, ap
 use Rattle.cyclo_points.specs.declared.motion.Motion.{Motion}
 use Rattle.tile_place.specs.Keys.{key_of}
 use Rattle.tile_place.specs.declared.placed_tile.PlacedTile.{PlacedTile}
-use Rattle.half_glue.specs.Found.{no_tile, tile_of}
-use Rattle.half_glue.specs.Keys.{HasKey}
+use Rattle.half_glue.specs.Found.{no_tile, given_tile}
+use Rattle.half_glue.specs.Keys.{HasTileKey}
 use Rattle.half_glue.proofs.AmongTiles.{kind-is, motion-is, front-there, behind-there}
 use Rattle.half_glue.proofs.covered_order.key_of.Goals as goal
 
@@ -12,14 +12,14 @@ of-requires-else-place-count-clause-within c =
     let e = behind-there c.args.tiles.now c.args.made.now.crossed.items c.args.number c.len-count.result
     c.len-count.ensures c.if-place-count.false c.requires.below c.index-tile.result.now
     c.index-tile.ensures in
-    (subst HasKey e (c.requires.fit c.args.number no_tile c.requires.below)).within
+    (subst HasTileKey e (c.requires.fit c.args.number no_tile c.requires.below)).within
 
 pub of-requires-else-place-count-clause-turn_fits : goal.of-requires-else-place-count-clause-turn_fits
 of-requires-else-place-count-clause-turn_fits c =
     let e = behind-there c.args.tiles.now c.args.made.now.crossed.items c.args.number c.len-count.result
     c.len-count.ensures c.if-place-count.false c.requires.below c.index-tile.result.now
     c.index-tile.ensures in
-    (subst HasKey e (c.requires.fit c.args.number no_tile c.requires.below)).turn_fits
+    (subst HasTileKey e (c.requires.fit c.args.number no_tile c.requires.below)).turn_fits
 
 pub returns-then-place-count : goal.returns-then-place-count
 returns-then-place-count c =

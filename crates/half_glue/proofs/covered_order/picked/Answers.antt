@@ -2,7 +2,7 @@ use Rattle.std.proofs.Common.{◌≡◌, ◌<◌, arith, length, true, false, Li
 use Rattle.std.proofs.lemmas.List.{get_or_default}
 use Rattle.half_glue.specs.declared.pairs.Pair.{Pair}
 use Rattle.theory_addresses.specs.Search.{chosen_below}
-use Rattle.half_glue.specs.Keys.{no_key, no_pair, is_new, pair_at}
+use Rattle.half_glue.specs.Keys.{no_key, no_pair, is_new_key, pair_at}
 use Rattle.half_glue.proofs.Keyed.{chosen-more}
 use Rattle.half_glue.proofs.covered_order.picked.Goals.{then-is_new+in_ok-push, else-is_new}
 use Rattle.half_glue.proofs.covered_order.picked.Goals as goal
@@ -19,13 +19,13 @@ loop-place-preserved c =
           let below : number < length pairs = c.requires.keyed n no_key c.loop-place-test.true in
           let one : p ≡ pair_at pairs ks n = w.index-pair.ensures ∙ get_or_default pairs number p no_pair below in
           ap (λ v. v.items) w.picked-is ∙ w.in_ok-push.ensures.items ∙ ap₂ (λ (ws : List Pair) (v : Pair). ws ++ v ∷ []) c.loop-place.invariant one
-          ∙ sym (chosen-more (is_new ks) (pair_at pairs ks) n true (sym c.is_new.ensures ∙ w.if-is_new.true))
+          ∙ sym (chosen-more (is_new_key ks) (pair_at pairs ks) n true (sym c.is_new.ensures ∙ w.if-is_new.true))
       | else-is_new w ↦
           ap (λ v. v.items) w.picked-is ∙ c.loop-place.invariant ∙ sym (append-nil _)
-          ∙ sym (chosen-more (is_new ks) (pair_at pairs ks) n false (sym c.is_new.ensures ∙ w.if-is_new.false))
+          ∙ sym (chosen-more (is_new_key ks) (pair_at pairs ks) n false (sym c.is_new.ensures ∙ w.if-is_new.false))
     ]
 
 pub returns : goal.returns
 returns c =
     let all_done : c.loop-place.place ≡ length c.args.keys.now = omega (arith, c.loop-place-test.false, c.loop-place.auto.place-end) in
-    c.loop-place.invariant ∙ ap (chosen_below (is_new c.args.keys.now) (pair_at c.args.made.now.pairs.items c.args.keys.now)) all_done
+    c.loop-place.invariant ∙ ap (chosen_below (is_new_key c.args.keys.now) (pair_at c.args.made.now.pairs.items c.args.keys.now)) all_done

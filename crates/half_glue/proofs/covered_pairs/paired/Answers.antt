@@ -7,7 +7,7 @@ use Rattle.tile_place.specs.declared.placed_tile.PlacedTile.{PlacedTile}
 use Rattle.theory_walks.specs.Ancestors.{full}
 use Rattle.half_glue.specs.declared.pairs.Pair.{Pair}
 use Rattle.half_glue.specs.Depth.{IsGluedInside}
-use Rattle.half_glue.specs.Found.{no_tile, tile_of}
+use Rattle.half_glue.specs.Found.{no_tile, given_tile}
 use Rattle.half_glue.specs.Limits.{CanBeJoined}
 use Rattle.half_glue.specs.Pairs.{added_pairs}
 use Rattle.half_glue.proofs.InnerPairs.{are-placed, read-mark, none-crossed, taken-settled, taken-too as inner-taken}
@@ -24,10 +24,10 @@ use Rattle.half_glue.proofs.covered_pairs.paired.Goals as goal
 below-count : (g : Over) (c : After-index g) → c.loop-number.number < length c.args.tiles.now
 below-count g c = subst (λ n. c.loop-number.number < n) c.len-count.ensures c.loop-number-test.true
 
-its-tile : (g : Over) (c : After-index g) → Contains c.args.tiles.now (tile_of c.args.tiles.now c.loop-number.number)
+its-tile : (g : Over) (c : After-index g) → Contains c.args.tiles.now (given_tile c.args.tiles.now c.loop-number.number)
 its-tile g c =
     let i = c.loop-number.number in
-    (i, below-count g c, get_or_default c.args.tiles.now i (tile_of c.args.tiles.now i) no_tile (below-count g c))
+    (i, below-count g c, get_or_default c.args.tiles.now i (given_tile c.args.tiles.now i) no_tile (below-count g c))
 
 pub other_half-requires-clause-to_glue : goal.other_half-requires-clause-to_glue
 other_half-requires-clause-to_glue g c = record {
@@ -55,7 +55,7 @@ loop-number-preserved g c =
     let inner : List Pair = c.in_ok-inner.inner.items in
     let i = c.loop-number.number in
     let below = below-count g ((goal.at.loop-number-preserved g c).After-index) in
-    let x = tile_of tiles i in
+    let x = given_tile tiles i in
     let settled = c.loop-number.invariant.0 in
     let up = c.in_ok-found.ensures.frame in
     let all_now = all-on c.args.machine.now L old now c.requires.to_glue.frame settled.grows tiles c.requires.to_glue.given in
@@ -153,7 +153,7 @@ loop-number-preserved-then-index g c =
     let crossed : List PlacedTile = c.loop-number.outer.crossed.items in
     let i = c.loop-number.number in
     let below = below-count g ((goal.at.loop-number-preserved-then-index g c).After-index) in
-    let x = tile_of tiles i in
+    let x = given_tile tiles i in
     let settled = c.loop-number.invariant.0 in
     let is = settled.grows.is_frame in
     let marks = c.inner_pairs.new.taken in
@@ -176,6 +176,6 @@ pub returns-in_err-found-clause-answered : goal.returns-in_err-found-clause-answ
 returns-in_err-found-clause-answered g c = λ can.
     let t = tiling_of c.args.machine.now in
     absurd (cc (c.in_err-found.ensures.answered
-    (subst (λ y. CanBeJoined t y (tile_of c.args.tiles.now c.loop-number.number))
+    (subst (λ y. CanBeJoined t y (given_tile c.args.tiles.now c.loop-number.number))
     (sym (full-later t c.args.frame.now c.loop-number.frame c.loop-number.invariant.0.grows))
     (can c.loop-number.number no_tile (below-count g ((goal.at.returns-in_err-found-clause-answered g c).After-index))))))

@@ -4,7 +4,7 @@ use Rattle.tile_place.specs.declared.placed_tile.PlacedTile.{PlacedTile}
 use Rattle.half_glue.specs.declared.half.Found.TheVariants.{Crossed}
 use Rattle.half_glue.specs.Causes.{HasGlueCause}
 use Rattle.half_glue.specs.Depth.{IsTooShallow}
-use Rattle.half_glue.specs.Found.{StandsBeside, IsJoined}
+use Rattle.half_glue.specs.Found.{KeyStandsBeside, IsJoined}
 use Rattle.theory_walks.proofs.Outcomes.{if_err-is}
 use Rattle.half_glue.proofs.OtherHalves.{same-tile, kind-there, read-given, side-of, only-of, none-joined, given-joined}
 use Rattle.half_glue.proofs.half.other_half.Goals as goal
@@ -35,7 +35,7 @@ returns-in-Some-given_half-clause-joined g c =
     c.index-tiles-number.result c.index-tiles-number.is
     c.from.result c.from.ensures (Some c.in-Some.side) c.in-Some.is)
     c.in-Some-given_half.other
-    (subst (λ (x : PlacedTile). StandsBeside c.args.machine.now.order c.in-Some.side.other x.motion c.args.keys.now c.in-Some-given_half.other)
+    (subst (λ (x : PlacedTile). KeyStandsBeside c.args.machine.now.order c.in-Some.side.other x.motion c.args.keys.now c.in-Some-given_half.other)
     (same-tile c.args.machine.now c.glue_laws.ensures c.args.frame.now c.requires.frame c.args.tiles.now
     c.requires.given c.args.sides.now c.requires.sides c.args.number c.requires.below
     c.index-tiles-number.result c.index-tiles-number.is) c.in-Some-given_half.ensures)

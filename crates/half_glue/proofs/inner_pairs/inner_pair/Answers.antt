@@ -3,7 +3,7 @@ use Rattle.std.proofs.lemmas.Bool.{ltb-true}
 use Rattle.cyclo_points.specs.declared.motion.Motion.{Motion}
 use Rattle.cyclo_points.specs.Order.{points_of}
 use Rattle.cyclo_points.specs.Point.{IsWithin}
-use Rattle.half_glue.specs.Found.{no_tile, tile_of, StandsAmong}
+use Rattle.half_glue.specs.Found.{no_tile, given_tile, StandsAmong}
 use Rattle.half_glue.proofs.AmongTiles.{kind-is, motion-is}
 use Rattle.rule_model.specs.Tiling.{tiling_of}
 use Rattle.half_glue.proofs.InnerPairs.{read-below, read-other, among-below, alone-inner, pair-inner}
@@ -53,13 +53,13 @@ returns-clause-inner c = λ f is given.
 pub bounds-sides-from : goal.bounds-sides-from
 bounds-sides-from c =
     read-below (tiling_of c.args.machine.now) c.args.sides.now c.requires.sides
-    (tile_of c.args.tiles.now c.args.number) (c.requires.placed c.args.number no_tile c.requires.below)
+    (given_tile c.args.tiles.now c.args.number) (c.requires.placed c.args.number no_tile c.requires.below)
     c.kind-kind.result c.from.result c.from.ensures
     (kind-is c.args.tiles.now c.args.number c.requires.below c.kind-kind.result c.kind-kind.ensures)
 
 pub half_among-requires-clause-other : goal.half_among-requires-clause-other
 half_among-requires-clause-other c =
     read-other (tiling_of c.args.machine.now) c.args.sides.now c.requires.sides
-    (tile_of c.args.tiles.now c.args.number) (c.requires.placed c.args.number no_tile c.requires.below)
+    (given_tile c.args.tiles.now c.args.number) (c.requires.placed c.args.number no_tile c.requires.below)
     c.kind-kind.result c.from.result c.from.ensures
     (kind-is c.args.tiles.now c.args.number c.requires.below c.kind-kind.result c.kind-kind.ensures) c.in-Some.side c.in-Some.is

@@ -3,7 +3,7 @@ use Rattle.rule_model.specs.Tiling.{tiling_of}
 use Rattle.theory_walks.specs.Frames.{FrameValue, IsFrameOf}
 use Rattle.half_glue.specs.declared.pairs.Pair.{Pair}
 use Rattle.half_glue.specs.Given.{AreGiven}
-use Rattle.half_glue.specs.Inner.{IsInner, AreInner, AreRising}
+use Rattle.half_glue.specs.Inner.{IsInnerPair, AreInner, AreRising}
 use Rattle.half_glue.proofs.InnerPairs.{inner-more, rising-more, rising-on}
 use Rattle.half_glue.proofs.inner_pairs.inner_pairs.Goals.{in-Some+in_ok-push, in_default}
 use Rattle.half_glue.proofs.inner_pairs.inner_pairs.Goals as goal
@@ -21,7 +21,7 @@ loop-number-preserved c =
           let items = ap (λ v. v.items) w.pairs-is ∙ w.in_ok-push.ensures.items in
           let first = subst (λ (o : Option Pair). IfSome o (λ q. q.first ≡ n)) w.in-Some.is c.inner_pair.ensures.first in
           let inner = subst (λ (o : Option Pair). IfSome o
-          (λ q. (f : FrameValue) → IsFrameOf t f → AreGiven t f tiles → IsInner t f tiles q)) w.in-Some.is
+          (λ q. (f : FrameValue) → IsFrameOf t f → AreGiven t f tiles → IsInnerPair t f tiles q)) w.in-Some.is
           c.inner_pair.ensures.inner in
           record {
             as_many = subst (λ (xs : List Bool). length xs ≡ length tiles) (sym w.taken-is) (w.mark.ensures.as_many ∙ inv.as_many);

@@ -6,7 +6,7 @@ use Rattle.tile_place.specs.declared.placed_tile.PlacedTile.{PlacedTile}
 use Rattle.theory_walks.specs.Ancestors.{full}
 use Rattle.half_glue.specs.declared.pairs.Pair.{Pair}
 use Rattle.half_glue.specs.Depth.{IsGluedInside}
-use Rattle.half_glue.specs.Found.{no_tile, tile_of}
+use Rattle.half_glue.specs.Found.{no_tile, given_tile}
 use Rattle.half_glue.specs.Limits.{CanBeJoined}
 use Rattle.half_glue.specs.Pairs.{added_pairs}
 use Rattle.half_glue.proofs.Halves.{given-key}
@@ -18,11 +18,11 @@ use Rattle.half_glue.proofs.paired.paired.Goals.{After-other_half}
 use Rattle.half_glue.proofs.paired.paired.Goals as goal
 
 -- the number is that of a tile
-its-tile : (g : Over) (c : After-other_half g) → Contains c.args.tiles.now (tile_of c.args.tiles.now c.loop-number.number)
+its-tile : (g : Over) (c : After-other_half g) → Contains c.args.tiles.now (given_tile c.args.tiles.now c.loop-number.number)
 its-tile g c =
     let i = c.loop-number.number in
     let below = c.loop-number-test.true in
-    (i, below, get_or_default c.args.tiles.now i (tile_of c.args.tiles.now i) no_tile below)
+    (i, below, get_or_default c.args.tiles.now i (given_tile c.args.tiles.now i) no_tile below)
 
 pub sorted_keys-requires-clause-fit : goal.sorted_keys-requires-clause-fit
 sorted_keys-requires-clause-fit g c = λ k d l. given-key c.args.machine.now c.glue_laws.ensures
@@ -51,7 +51,7 @@ loop-number-preserved g c =
     let tiles : List PlacedTile = c.args.tiles.now in
     let i = c.loop-number.number in
     let below = c.loop-number-test.true in
-    let x = tile_of tiles i in
+    let x = given_tile tiles i in
     let settled = c.loop-number.invariant.0 in
     let up = c.in_ok-found.ensures.frame in
     let all_now = all-on m L old now c.requires.to_glue.frame settled.grows tiles c.requires.to_glue.given in

@@ -2,7 +2,7 @@ use Rattle.std.proofs.Common.{◌≡◌, ◌∙◌, ℤ, List, Some, Vec, Global
 use Rattle.toml.specs.View.{view, table_view}
 use Rattle.cyclo_points.specs.declared.point.Point.{Point}
 use Rattle.rule_text.specs.Forms.{each, rows}
-use Rattle.rule_text.specs.Ranges.{point_of}
+use Rattle.rule_text.specs.Ranges.{file_point}
 use Rattle.rule_text.proofs.Items.{each-map}
 use Rattle.rule_text.proofs.KeyLaws.{value_at-formed, Gives-ok_or}
 use Rattle.rule_text.proofs.keys.vertices.Goals as goal
@@ -14,9 +14,9 @@ returns c =
     let given = c.in-Some-2.rows.items in
     let seen : Vec Point Global → List Point = λ v. v.items in
     let form : rows 4 (view c.in-Some.value.now) ≡ Some (map items given) = sym (rw c.in-Some-2.is at c.in_ok-rows.ensures.read) in
-    let range : each (point_of o) (map items given) ≡ option_map seen c.in_ok-points_of.field-0 =
-    each-map (point_of o) items given ∙ ap (each (λ (row : Vec ℤ Global). point_of o row.items))
+    let range : each (file_point o) (map items given) ≡ option_map seen c.in_ok-points_of.field-0 =
+    each-map (file_point o) items given ∙ ap (each (λ (row : Vec ℤ Global). file_point o row.items))
     (sym c.as_slice.ensures.value) ∙ sym c.in_ok-points_of.ensures in
     rw c.ok_or.ensures.value (Gives-ok_or seen c.in_ok-points_of.field-0 _ _
-    (value_at-formed c.args.key (codes "vertices") (rows 4) (each (point_of o))
+    (value_at-formed c.args.key (codes "vertices") (rows 4) (each (file_point o))
     (table_view c.args.table.now) _ _ _ (sym c.in-Some.ensures) form range))

@@ -3,7 +3,7 @@ use Rattle.cyclo_points.proofs.Within.{point_wider}
 use Rattle.rule_model.specs.Tiling.{tiling_of}
 use Rattle.star_walk.specs.declared.corner.Corner.{Corner}
 use Rattle.star_walk.specs.declared.star_fault.StarFault.TheVariants.{DepthLimit}
-use Rattle.star_walk.specs.Causes.{HasCause}
+use Rattle.star_walk.specs.Causes.{HasStarCause}
 use Rattle.star_walk.specs.Found.{IsOnTheWay}
 use Rattle.theory_walks.proofs.Brought.{Brings, brought}
 use Rattle.star_walk.specs.StarLaws.{HasStarLaws}
@@ -74,7 +74,7 @@ returns-in_err-step_round-clause-cause g c =
     let p = (goal.at.returns-in_err-step_round-clause-cause g c).After-push in
     let B = brings g ((goal.at.returns-in_err-step_round-clause-cause g c).After-base_tile) in
     let limit = c.in_err-step_round.field-0.0 in
-    if_err-is (HasCause (tiling_of c.args.machine.now) c.step_round.new.frame c.args.vertex)
+    if_err-is (HasStarCause (tiling_of c.args.machine.now) c.step_round.new.frame c.args.vertex)
     c.from_residual.result (DepthLimit limit.addr limit.edge) c.from_residual.ensures.1
     (limited c.args.machine.now B.settled B.fits B.laws c.args.frame.now c.requires.vertex.frame c.args.vertex
     c.requires.vertex.exists c.loop-frame.frame c.push.new.self.items c.loop-frame.corner (way g p)

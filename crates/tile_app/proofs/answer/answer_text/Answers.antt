@@ -2,7 +2,7 @@ use Rattle.std.proofs.Common.{rules, ◌≡◌, ℕ, List, false, map, Ok, Err, 
 use Rattle.std.proofs.lemmas.Result.{IfOk-weaker, IfErr-weaker}
 use Rattle.call_words.specs.FormatWords.{first_lacking}
 use Rattle.call_words.specs.declared.rule_choice.RuleChoice.TheVariants.{Builtin}
-use Rattle.call_words.specs.Request.{Request, request_in, rule_of}
+use Rattle.call_words.specs.Request.{Request, request_in, rule_asked}
 use Rattle.call_words.specs.Request.Request.{Place}
 use Rattle.call_words.specs.Views.{AnswersAs, IsWithinForms, request_of}
 use Rattle.call_words.specs.Words.{texts}
@@ -49,7 +49,8 @@ have : (g : Over) (c : After-rule_chosen g) → HaveLayers (request_of c.in-Ok.r
 have g c = ap (first_lacking (map g.D.Layer.form c.args.layers.now)) (sym c.formats.ensures) ∙ sym c.first_lacking.ensures ∙ c.in_default.is
 
 -- the source is as it was where their rule has no file
-unread : (g : Over) (c : After-rule_chosen g) → is_file (rule_of (request_of c.in-Ok.request)) ≡ false → c.rule_chosen.new.source ≡ c.args.source.now
+unread : (g : Over) (c : After-rule_chosen g) → is_file (rule_asked (request_of c.in-Ok.request)) ≡ false
+    → c.rule_chosen.new.source ≡ c.args.source.now
 unread g c e = c.rule_chosen.ensures.untouched (ap is_file c.rule-rule.ensures ∙ e)
 
 -- ---- the rule is refused
@@ -62,7 +63,7 @@ returns-in_err-checked-clause-refused g c =
     let left = g.R.Source.left c.args.source.now in
     let rest = g.R.Source.left c.rule_chosen.new.source in
     let of_rule = subst (λ r. IfErr c.rule_chosen.result (IsRuleRefused r left rest)) c.rule-rule.ensures c.rule_chosen.ensures.refused in
-    let h = refused_by (IsRuleRefused (rule_of q) left rest) (IsRefused words handed left rest)
+    let h = refused_by (IsRuleRefused (rule_asked q) left rest) (IsRefused words handed left rest)
     (rule_refused words handed q (right g s) (have g s) left rest) c.rule_chosen.result of_rule in
     search (rules, h)
 
@@ -73,7 +74,7 @@ returns-in_err-checked-clause-untouched g c = λ e.
 
 -- ---- the rule was made, and the request has its tiling
 made : (g : Over) (c : In_ok-checked g)
-    → IsRuleRead (rule_of (request_of c.in-Ok.request)) (g.R.Source.left c.args.source.now)
+    → IsRuleRead (rule_asked (request_of c.in-Ok.request)) (g.R.Source.left c.args.source.now)
     (g.R.Source.left c.rule_chosen.new.source) (tiling_of c.in_ok-checked.checked)
 made g c =
     subst (λ r. IsRuleRead r (g.R.Source.left c.args.source.now) (g.R.Source.left c.rule_chosen.new.source)
@@ -149,7 +150,7 @@ returns-in-Place-Builtin-clause-printed g c =
     let asked : request_in words ≡ Ok (request_of c.in-Ok.request) = subst
     (λ r. AnswersAs request_of r (request_in words)) c.in-Ok.is c.request_in.ensures.asked in
     let of_rule = subst (λ r. request_in words ≡ Ok (request_of r)) c.in-Place-Builtin.is-0 asked in
-    let rule = ap (λ r. rule_of (request_of r)) (sym c.in-Place-Builtin.is-0) ∙ sym c.rule-rule.ensures ∙ c.in-Place-Builtin.is-1 in
+    let rule = ap (λ r. rule_asked (request_of r)) (sym c.in-Place-Builtin.is-0) ∙ sym c.rule-rule.ensures ∙ c.in-Place-Builtin.is-1 in
     let q = subst (λ r. request_in words ≡ Ok (Place r c.in-Place-Builtin.addr.now)) rule of_rule in
     let source = g.R.Source.left c.args.source.now in
     let Printed = λ (text : List ℕ). OfCall words (map g.D.Layer.form c.args.layers.now) source source (λ call. Prints call text) in
@@ -166,7 +167,7 @@ returns-in-Place-Builtin-clause-refused g c =
     let asked : request_in words ≡ Ok (request_of c.in-Ok.request) = subst
     (λ r. AnswersAs request_of r (request_in words)) c.in-Ok.is c.request_in.ensures.asked in
     let of_rule = subst (λ r. request_in words ≡ Ok (request_of r)) c.in-Place-Builtin.is-0 asked in
-    let rule = ap (λ r. rule_of (request_of r)) (sym c.in-Place-Builtin.is-0) ∙ sym c.rule-rule.ensures ∙ c.in-Place-Builtin.is-1 in
+    let rule = ap (λ r. rule_asked (request_of r)) (sym c.in-Place-Builtin.is-0) ∙ sym c.rule-rule.ensures ∙ c.in-Place-Builtin.is-1 in
     let q = subst (λ r. request_in words ≡ Ok (Place r c.in-Place-Builtin.addr.now)) rule of_rule in
     text_refused (IsRefused words (map g.D.Layer.form c.args.layers.now) (g.R.Source.left c.args.source.now) (g.R.Source.left c.args.source.now))
     c.named_place_text.result c.map.result c.map.ensures.cases

@@ -15,7 +15,7 @@ use Rattle.tile_app.specs.Reading.{IsItsTiling, OfOwnFile, IsRequestRefused}
 use Rattle.tile_app.specs.Star.{PrintsStar, StarRefuses}
 use Rattle.tile_app.specs.Tile.{is_tile}
 use Rattle.tile_app.specs.Walk.{PrintsWalk, WalkRefuses}
-use Rattle.tile_app.specs.Windows.{window_in}
+use Rattle.tile_app.specs.Windows.{window_asked}
 use Rattle.tile_app.proofs.Own.{alone_printed, alone_refused, alone_unread, listing_printed, listing_refused}
 use Rattle.tile_app.proofs.TextAnswer.{text_told, text_refused, alone_told, alone_untold, answer_unread}
 use Rattle.tile_app.proofs.Tiles.{frame_holds, frame_refused}
@@ -116,10 +116,10 @@ draw g c =
 draw_refused : (g : Over) (c : After-draw_text g) → IfErr c.draw_text.result (OrNoMemory (TileRefuses (tiling_of c.args.machine.now)
     (address_text c.args.frame.now.base)
     (λ a. DrawRefuses c.in-Draw.glue (tiling_of c.args.machine.now) (frame_of a c.args.frame.now.start)
-    (window_in c.args.machine.now.order (window_of c.in-Draw.window)))))
+    (window_asked c.args.machine.now.order (window_of c.in-Draw.window)))))
 draw_refused g c =
     frame_refused (tiling_of c.args.machine.now) c.args.frame.now c.requires.base
-    (λ x. DrawRefuses c.in-Draw.glue (tiling_of c.args.machine.now) x (window_in c.args.machine.now.order (window_of c.in-Draw.window)))
+    (λ x. DrawRefuses c.in-Draw.glue (tiling_of c.args.machine.now) x (window_asked c.args.machine.now.order (window_of c.in-Draw.window)))
     (λ x fault k. k) c.draw_text.result c.draw_text.ensures.refused
 
 pub returns-in-Draw-clause-printed : goal.returns-in-Draw-clause-printed
@@ -129,7 +129,7 @@ returns-in-Draw-clause-printed g c =
     rw c.in-Draw.is (IfOk-weaker c.draw_text.result _ _
     (λ answer h.
     let holds = frame_holds t c.args.frame.now c.requires.base
-    (λ x. PrintsDraw c.in-Draw.glue c.in-Draw.formats.items t x (window_in t.order (window_of c.in-Draw.window)) h.0) h.1 in
+    (λ x. PrintsDraw c.in-Draw.glue c.in-Draw.formats.items t x (window_asked t.order (window_of c.in-Draw.window)) h.0) h.1 in
     (h.0, alone_printed q t (g.R.Source.left c.args.source.now) refl h.0 holds, h.2)) c.draw_text.ensures.printed)
 
 pub returns-in-Draw-clause-refused : goal.returns-in-Draw-clause-refused

@@ -1,6 +1,6 @@
 use Rattle.std.proofs.Common.{rules, length, ◌≤◌, Err, sym, subst}
 use Rattle.std.proofs.lemmas.Result.{err_from_is_err_and}
-use Rattle.addr_calc.specs.Script.{IsAnswer, OrNoMemory}
+use Rattle.addr_calc.specs.Script.{IsOutcome, LineOrNoMemory}
 use Rattle.rule_model.specs.Tiling.{tiling_of}
 use Rattle.rule_text.specs.Limits.{longest_file}
 use Rattle.tile_app.specs.declared.file_kind.FileKind.TheVariants.{Script}
@@ -26,7 +26,7 @@ calc-requires g c = subst (λ f. length f ≤ longest_file) (sym c.as_slice.ensu
 pub returns-in_err-calc-clause-refused : goal.returns-in_err-calc-clause-refused
 returns-in_err-calc-clause-refused g c =
     let fault = c.in_err-calc.field-0.0 in
-    let of_file = subst (λ file. OrNoMemory (λ f. IsAnswer (tiling_of c.args.machine.now) file (Err f)) fault)
+    let of_file = subst (λ file. LineOrNoMemory (λ f. IsOutcome (tiling_of c.args.machine.now) file (Err f)) fault)
     c.as_slice.ensures.value c.in_err-calc.ensures.fault in
     let p = err_from_is_err_and c.from_residual-in_err-calc.result c.from_residual-in_err-calc.ensures.1 in
     rw (p.1, p.2) (script_faulty (tiling_of c.args.machine.now) (g.R.Source.left c.args.source.now)

@@ -12,7 +12,7 @@ use Rattle.tile_app.specs.Draw.{texts_of, PrintsDraw, DrawRefuses}
 use Rattle.tile_app.specs.LayerTexts.{FirstHasDrawn, HaveText, IsTextOf}
 use Rattle.tile_app.specs.Pictured.{picture_of}
 use Rattle.call_notes.specs.Status.{OrNoMemory}
-use Rattle.tile_app.specs.Windows.{window_in}
+use Rattle.tile_app.specs.Windows.{window_asked}
 use Rattle.tile_app.proofs.draw.draw_text.Goals as goal
 
 -- the window is the one that is asked for
@@ -22,10 +22,10 @@ returns-in_err-picture-clause-refused g c =
     let f = c.args.frame.now in
     let asked = window_of c.args.asked.now in
     let order = c.order.ensures.order ∙ ap (λ (r : Rule). r.order) c.checked.ensures.rule in
-    let window = c.window_in-window.ensures.window ∙ ap (λ o. window_in o asked) order in
+    let window = c.window_in-window.ensures.window ∙ ap (λ o. window_asked o asked) order in
     let h = subst (λ w. IfErr c.pictured.result (OrNoMemory (DrawRefuses c.args.whole t f w))) window c.pictured.ensures.refused in
     let p = err_from_is_err_and c.from_residual.result c.from_residual.ensures.1 in
-    rw (p.1, p.2) (subst (λ r. IfErr r (OrNoMemory (DrawRefuses c.args.whole t f (window_in t.order asked)))) c.in_err-picture.was h)
+    rw (p.1, p.2) (subst (λ r. IfErr r (OrNoMemory (DrawRefuses c.args.whole t f (window_asked t.order asked)))) c.in_err-picture.was h)
 
 pub draw_formats-requires-clause-have_layers : goal.draw_formats-requires-clause-have_layers
 draw_formats-requires-clause-have_layers g c =
@@ -55,7 +55,7 @@ returns-clause-printed g c =
     let asked = window_of c.args.asked.now in
     let formats = c.args.formats.now.items in
     let order = c.order.ensures.order ∙ ap (λ (r : Rule). r.order) c.checked.ensures.rule in
-    let window = c.window_in-window.ensures.window ∙ ap (λ o. window_in o asked) order in
+    let window = c.window_in-window.ensures.window ∙ ap (λ o. window_asked o asked) order in
     let picture = picture_of t c.in_ok-picture.picture in
     let view = c.view_of-view.result in
     let text = texts_of view picture formats in

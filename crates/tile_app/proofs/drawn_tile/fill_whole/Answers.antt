@@ -1,10 +1,10 @@
 use Rattle.std.proofs.Common.{◌≡◌, Option, None, Some, refl}
 use Rattle.std.specs.Option.{option_map}
 use Rattle.layer_api.specs.declared.part.Part.{Part}
-use Rattle.tile_app.specs.DrawnTile.{part_of, tile_of}
+use Rattle.tile_app.specs.DrawnTile.{part_drawn, tile_drawn}
 use Rattle.tile_app.proofs.drawn_tile.fill_whole.Goals as goal
 
-second-back : (s : Option Part) → s ≡ option_map part_of (option_map tile_of s)
+second-back : (s : Option Part) → s ≡ option_map part_drawn (option_map tile_drawn s)
 second-back None = refl
 second-back (Some p) = refl
 

@@ -9,7 +9,7 @@ use Rattle.rule_model.specs.Tiling.{tiling_of}
 use Rattle.rule_model.specs.Views.{rule_of}
 use Rattle.theory_substitution.specs.Motion.{moved}
 use Rattle.theory_substitution.specs.RuleParts.{vertices_of}
-use Rattle.tile_app.specs.DrawnTile.{point_of}
+use Rattle.tile_app.specs.DrawnTile.{point_of_number}
 use Rattle.tile_app.proofs.Placed.{corner_placed, one_more_of}
 use Rattle.tile_app.proofs.Prototiles.{its-vertices, as-many}
 use Rattle.tile_app.proofs.drawn_tile.overwrite.Goals as goal
@@ -34,7 +34,7 @@ loop-number-preserved c =
     let long = length-drop first ns in
     let below : i < length (drop first ns) = omega
     (arith, long, c.loop-number-test.true, c.requires.there, as-many m x.kind vs h, h.each_edge) in
-    let F : NumberOf m.order → Point = λ z. point_of m.order (moved (points_of m.order) (motion_in m.order x.motion) z) in
+    let F : NumberOf m.order → Point = λ z. point_of_number m.order (moved (points_of m.order) (motion_in m.order x.motion) z) in
     record {
       as_many = length-set xs i p ∙ many;
       near = rw (take_more_set xs i p inside) (All-push (IsNear m.order) (take i xs) p
@@ -54,7 +54,7 @@ returns-clause-placed c =
     let x = c.args.part.now in
     let ns = vertices_of (rule_of m) x.kind in
     let i = c.loop-number.number in
-    let F : NumberOf m.order → Point = λ z. point_of m.order (moved (points_of m.order) (motion_in m.order x.motion) z) in
+    let F : NumberOf m.order → Point = λ z. point_of_number m.order (moved (points_of m.order) (motion_in m.order x.motion) z) in
     let ended : length c.loop-number.points ≤ i = omega (arith, c.loop-number-test.false, c.loop-number.invariant.as_many) in
     let all : i ≡ length c.args.points.now = omega (arith, c.loop-number-test.false, c.loop-number.auto.number-end) in
     sym (take_all i c.loop-number.points ended) ∙ c.loop-number.invariant.placed

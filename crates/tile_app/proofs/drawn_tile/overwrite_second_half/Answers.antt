@@ -7,7 +7,7 @@ use Rattle.layer_api.specs.Drawable.{IsNear}
 use Rattle.rule_model.specs.Views.{rule_of}
 use Rattle.theory_substitution.specs.Motion.{moved}
 use Rattle.theory_substitution.specs.RuleParts.{vertices_of}
-use Rattle.tile_app.specs.DrawnTile.{point_of}
+use Rattle.tile_app.specs.DrawnTile.{point_of_number}
 use Rattle.tile_app.proofs.Prototiles.{its-vertices, each-its-vertex}
 use Rattle.tile_app.proofs.Outlines.{second-is, last-is}
 use Rattle.tile_app.proofs.drawn_tile.overwrite_second_half.Goals as goal
@@ -22,9 +22,9 @@ returns-then-count-edge-clause-placed c =
     let all = c.requires.as_many in
     let exists = c.of-edge.ensures.exists in
     c.overwrite.ensures.placed
-    ∙ last-is (point_of m.order) (moved (points_of m.order) (motion_in m.order x.motion)) (vertices_of (rule_of m) x.kind)
+    ∙ last-is (point_of_number m.order) (moved (points_of m.order) (motion_in m.order x.motion)) (vertices_of (rule_of m) x.kind)
     c.of-edge.result _ (omega (arith, all, each)) (omega (arith, all, each, exists, c.if-count-edge.true))
-    ∙ ap (λ k. map (point_of m.order) (inner_of (begun_behind k (map (moved (points_of m.order) (motion_in m.order x.motion))
+    ∙ ap (λ k. map (point_of_number m.order) (inner_of (begun_behind k (map (moved (points_of m.order) (motion_in m.order x.motion))
     (vertices_of (rule_of m) x.kind))))) c.of-edge.ensures.edge
 
 pub returns-clause-near : goal.returns-clause-near
@@ -42,8 +42,8 @@ returns-clause-placed c =
     let all = c.requires.as_many in
     let more = c.if-count-edge.false in
     ap₂ (λ xs ys. xs ++ ys) c.overwrite-2.ensures.placed c.overwrite-3.ensures.placed
-    ∙ second-is (point_of m.order) (moved (points_of m.order) (motion_in m.order x.motion)) (vertices_of (rule_of m) x.kind)
+    ∙ second-is (point_of_number m.order) (moved (points_of m.order) (motion_in m.order x.motion)) (vertices_of (rule_of m) x.kind)
     c.of-edge.result _ _
     (omega (arith, all, each, more, split.front_len)) (omega (arith, all, each, more, split.back_len))
-    ∙ ap (λ k. map (point_of m.order) (inner_of (begun_behind k (map (moved (points_of m.order) (motion_in m.order x.motion))
+    ∙ ap (λ k. map (point_of_number m.order) (inner_of (begun_behind k (map (moved (points_of m.order) (motion_in m.order x.motion))
     (vertices_of (rule_of m) x.kind))))) c.of-edge.ensures.edge

@@ -1,7 +1,7 @@
 use Rattle.std.proofs.Common.{inl, inr, sym, ap, subst, arith}
 use Rattle.rule_model.specs.Tiling.{tiling_of}
 use Rattle.window_cover.specs.declared.cover_fault.CoverFault.TheVariants.{NoMemory}
-use Rattle.window_cover.specs.Windows.{IsLeastEnough}
+use Rattle.window_cover.specs.Windows.{IsLeastForWindow}
 use Rattle.tile_app.specs.declared.summary.Summary.{Summary}
 use Rattle.tile_app.specs.Drill.{IsCovered}
 use Rattle.tile_app.proofs.Drawing.{at_most_limit, fault-or_ok}
@@ -37,7 +37,7 @@ returns-in-Ok-clause-adds c =
       later = g;
       grown = x.frame;
       its_depth = depth.ensures.digits;
-      least = subst (IsLeastEnough t f c.args.window.now) (sym depth.ensures.digits) x.least;
+      least = subst (IsLeastForWindow t f c.args.window.now) (sym depth.ensures.digits) x.least;
       tiles = c.in-Ok.tiles;
       stand = x.stand;
       drawn = x.drawn;

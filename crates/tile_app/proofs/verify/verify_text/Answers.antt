@@ -8,7 +8,7 @@ use Rattle.tile_app.specs.declared.file_kind.FileKind.TheVariants.{Listing}
 use Rattle.tile_app.specs.Reading.{IsFileUnread, IsListingPrinted, IsListingRefused}
 use Rattle.call_notes.specs.Status.{OrNoMemory}
 use Rattle.tile_app.specs.Verify.{PrintsVerify, VerifyRefuses}
-use Rattle.tile_app.specs.Windows.{window_in}
+use Rattle.tile_app.specs.Windows.{window_asked}
 use Rattle.tile_app.proofs.Own.{listing_unread, listing_done, listing_wrong, listing_unfailed}
 use Rattle.tile_app.proofs.Read.{refused_by}
 use Rattle.tile_app.proofs.verify.verify_text.Given.{Over}
@@ -16,15 +16,15 @@ use Rattle.tile_app.proofs.verify.verify_text.Goals.{After-window_in-window}
 use Rattle.tile_app.proofs.verify.verify_text.Goals as goal
 
 -- the window is the one that is asked for, in the order of the rule
-window : (g : Over) (c : After-window_in-window g) → c.window_in-window.result ≡ window_in c.args.machine.now.order (window_of c.args.asked.now)
+window : (g : Over) (c : After-window_in-window g) → c.window_in-window.result ≡ window_asked c.args.machine.now.order (window_of c.args.asked.now)
 window g c =
     c.window_in-window.ensures.window
-    ∙ ap (λ o. window_in o (window_of c.args.asked.now)) (c.order.ensures.order ∙ ap (λ (r : Rule). r.order) c.checked.ensures.rule)
+    ∙ ap (λ o. window_asked o (window_of c.args.asked.now)) (c.order.ensures.order ∙ ap (λ (r : Rule). r.order) c.checked.ensures.rule)
 
 -- the listing can't be read
 pub returns-in_err-listing-clause-refused : goal.returns-in_err-listing-clause-refused
 returns-in_err-listing-clause-refused g c =
-    let asked = window_in c.args.machine.now.order (window_of c.args.asked.now) in
+    let asked = window_asked c.args.machine.now.order (window_of c.args.asked.now) in
     let h = refused_by (IsFileUnread Listing (g.R.Source.left c.args.source.now) (g.R.Source.left c.file_read.new.source))
     (IsListingRefused (tiling_of c.args.machine.now) c.args.frame.now asked
     (g.R.Source.left c.args.source.now) (g.R.Source.left c.file_read.new.source))
@@ -38,7 +38,7 @@ returns-in_err-verified-clause-refused g c =
     let s = goal.at.returns-in_err-verified-clause-refused g c in
     let t = tiling_of c.args.machine.now in
     let f = c.args.frame.now in
-    let w = window_in t.order (window_of c.args.asked.now) in
+    let w = window_asked t.order (window_of c.args.asked.now) in
     let left = g.R.Source.left c.args.source.now in
     let rest = g.R.Source.left c.file_read.new.source in
     let listing = c.in_ok-listing.listing.items in
@@ -61,7 +61,7 @@ returns-clause-printed g c =
     let s = goal.at.returns-clause-printed g c in
     let t = tiling_of c.args.machine.now in
     let f = c.args.frame.now in
-    let w = window_in t.order (window_of c.args.asked.now) in
+    let w = window_asked t.order (window_of c.args.asked.now) in
     let left = g.R.Source.left c.args.source.now in
     let rest = g.R.Source.left c.file_read.new.source in
     let text = string_bytes c.in_ok-verified.field-0 in

@@ -1,6 +1,6 @@
 use Rattle.std.proofs.Common.{◌≡◌, ◌↔◌, Ok, IsOk, subst}
 use Rattle.rule_model.specs.Tiling.{tiling_of, children}
-use Rattle.tile_shape.specs.AddressIn.{address_in as address_of_text}
+use Rattle.tile_shape.specs.AddressIn.{address_of_text as address_of_text}
 use Rattle.c_values.specs.Addresses.{address_in, NamesTile}
 use Rattle.c_values.specs.Statuses.{ok, bad_address}
 use Rattle.tiling_c.proofs.addresses.tiling_read_address.Goals as goal

@@ -1,6 +1,6 @@
 use Rattle.std.proofs.Common.{◌≡◌, ◌⊎◌, refl, ap, ◌∙◌}
 use Rattle.rule_model.specs.Tiling.{tiling_of}
-use Rattle.window_cover.specs.Limits.{IsWithinLimits}
+use Rattle.window_cover.specs.Limits.{IsCoverWithinLimits}
 use Rattle.c_values.specs.Statuses.{ok, no_memory}
 use Rattle.c_values.specs.Windows.{window_in}
 use Rattle.tiling_c.specs.Covering.{IsCover, EndsCover}
@@ -38,14 +38,14 @@ pub returns-clause-within : goal.returns-clause-within
 returns-clause-within c =
     let order = c.order.ensures.order ∙ ap (λ r. r.order) c.checked.ensures.rule in
     let window = c.in-Some.ensures.window ∙ ap (λ o. window_in o c.args.window.now) order in
-    given_moved (λ f w. c.put_window.result ≡ ok → IsWithinLimits (tiling_of c.args.machine.now) f w) _ _ _ _
+    given_moved (λ f w. c.put_window.result ≡ ok → IsCoverWithinLimits (tiling_of c.args.machine.now) f w) _ _ _ _
     c.in-Some-frame.ensures.seen window c.put_window.ensures.within
 
 pub returns-clause-answered : goal.returns-clause-answered
 returns-clause-answered c =
     let order = c.order.ensures.order ∙ ap (λ r. r.order) c.checked.ensures.rule in
     let window = c.in-Some.ensures.window ∙ ap (λ o. window_in o c.args.window.now) order in
-    λ _ _. given_moved (λ f w. IsWithinLimits (tiling_of c.args.machine.now) f w → (c.put_window.result ≡ ok)
+    λ _ _. given_moved (λ f w. IsCoverWithinLimits (tiling_of c.args.machine.now) f w → (c.put_window.result ≡ ok)
     ⊎ (c.put_window.result ≡ no_memory)) _ _ _ _ c.in-Some-frame.ensures.seen window
     c.put_window.ensures.answered
 

@@ -1,6 +1,6 @@
 use Rattle.std.proofs.Common.{◌≡◌, ◌↔◌, ◌⊎◌, ◌<◌, ◌≤◌, subst}
 use Rattle.rule_model.specs.Tiling.{tiling_of}
-use Rattle.star_walk.specs.Causes.{IsWithinLimits}
+use Rattle.star_walk.specs.Causes.{IsStarWithinLimits}
 use Rattle.tile_place.specs.Crossed.{edges_of}
 use Rattle.c_values.specs.Addresses.{NamesTile}
 use Rattle.c_values.specs.Frames.{frame_in}
@@ -15,13 +15,13 @@ returns-clause-star c =
 
 pub returns-clause-within : goal.returns-clause-within
 returns-clause-within c =
-    subst (λ r. c.turn.result ≡ ok → IsWithinLimits (tiling_of r) (frame_in c.args.frame.now) c.args.vertex) c.get.ensures c.turn.ensures.within
+    subst (λ r. c.turn.result ≡ ok → IsStarWithinLimits (tiling_of r) (frame_in c.args.frame.now) c.args.vertex) c.get.ensures c.turn.ensures.within
 
 pub returns-clause-answered : goal.returns-clause-answered
 returns-clause-answered c =
     subst
     (λ r. NamesTile (tiling_of r) c.args.frame.now.base → c.args.vertex < edges_of (tiling_of r) c.args.frame.now.base.kind
-    → IsWithinLimits (tiling_of r) (frame_in c.args.frame.now) c.args.vertex → c.turn.result ≡ ok)
+    → IsStarWithinLimits (tiling_of r) (frame_in c.args.frame.now) c.args.vertex → c.turn.result ≡ ok)
     c.get.ensures c.turn.ensures.answered
 
 pub returns-clause-bad_address : goal.returns-clause-bad_address

@@ -4,7 +4,7 @@ use Rattle.rule_model.specs.Tiling.{tiling_of, children}
 use Rattle.listing_text.specs.Listing.{Entry}
 use Rattle.listing_text.specs.Views.{entry_of}
 use Rattle.listing_text.specs.Written.{entry_text, CanBeListed}
-use Rattle.tiling_c.specs.Arrays.{tile_at, address_at}
+use Rattle.tiling_c.specs.Arrays.{plain_tile_at, plain_address_at}
 use Rattle.tiling_c.specs.Verifying.{entry_given, IsEntry}
 use Rattle.tiling_c.proofs.Verified.{listing_more, listing_none, listing_whole, can_be_listed, one_more, there, here}
 use Rattle.tiling_c.proofs.verifying.listing.Goals as goal
@@ -45,9 +45,9 @@ loop-index-preserved c =
     record {
       lines = c.in-Ok.ensures.items ∙ listing_more i tiles addrs c.loop-index.text.items c.as_bytes.result.now in_tiles in_addrs
           c.loop-index.invariant.lines (c.as_bytes.ensures ∙ line);
-      entries = one_more (λ j. IsEntry t (tile_at tiles j) (address_at addrs j)) i c.loop-index.invariant.entries is_entry;
-      listed = one_more (λ j. CanBeListed (children t) (entry_given (tile_at tiles j) (address_at addrs j))) i
-          c.loop-index.invariant.listed (can_be_listed t (tile_at tiles i) (address_at addrs i) is_entry four);
+      entries = one_more (λ j. IsEntry t (plain_tile_at tiles j) (plain_address_at addrs j)) i c.loop-index.invariant.entries is_entry;
+      listed = one_more (λ j. CanBeListed (children t) (entry_given (plain_tile_at tiles j) (plain_address_at addrs j))) i
+          c.loop-index.invariant.listed (can_be_listed t (plain_tile_at tiles i) (plain_address_at addrs i) is_entry four);
     }
 
 pub returns-clause-text : goal.returns-clause-text

@@ -8,7 +8,7 @@ use Rattle.tile_place.specs.Crossed.{IsOnlyAcross}
 use Rattle.tile_place.proofs.OneAcross.{one_across}
 use Rattle.tile_shape.specs.Views.{address_of}
 use Rattle.c_values.specs.Addresses.{address_in}
-use Rattle.tiling_c.specs.Arrays.{tile_at, address_at}
+use Rattle.tiling_c.specs.Arrays.{plain_tile_at, plain_address_at}
 use Rattle.tiling_c.specs.Walks.{ShowsStanding}
 use Rattle.tiling_c.proofs.Walked.{address_there, tile_there, address_before, tile_before, one_walked, step_is_ok, of_ok, ahead_at}
 use Rattle.tiling_c.proofs.walks.put_tiles.Goals as goal
@@ -21,15 +21,15 @@ loop-i-init g c =
     let tile = c.base_tile-tile.result in
     let stands = c.base_tile-tile.ensures.stands in
     let addr = c.write.new.self in
-    let there : address_at (slice_set c.args.addrs.now 0 addr) 0 ≡ addr = address_there c.args.addrs.now 0
+    let there : plain_address_at (slice_set c.args.addrs.now 0 addr) 0 ≡ addr = address_there c.args.addrs.now 0
     addr (omega (arith, c.requires.addresses_room)) in
-    let shown : tile_at (slice_set c.args.tiles.now 0 c.placed.result) 0 ≡ c.placed.result = tile_there
+    let shown : plain_tile_at (slice_set c.args.tiles.now 0 c.placed.result) 0 ≡ c.placed.result = tile_there
     c.args.tiles.now 0 c.placed.result (omega (arith, c.requires.tiles_room)) in
     record {
       tiles_room = length-set c.args.tiles.now 0 c.placed.result ∙ c.requires.tiles_room;
       addresses_room = length-set c.args.addrs.now 0 addr ∙ c.requires.addresses_room;
       base = ap address_in there ∙ c.write.ensures.its_digits ∙ c.base_tile-tile.ensures.base;
-      base_stands = subst (λ a. ShowsStanding t f 0 (tile_at (slice_set c.args.tiles.now 0 c.placed.result) 0) a) (sym there)
+      base_stands = subst (λ a. ShowsStanding t f 0 (plain_tile_at (slice_set c.args.tiles.now 0 c.placed.result) 0) a) (sym there)
           (subst (λ x. ShowsStanding t f 0 x addr) (sym shown)
           (record { tile = tile; stands = stands; its_numbers = c.placed.ensures; its_address = c.write.ensures }));
       each = λ j below. absurd (omega (arith, below));
@@ -69,22 +69,22 @@ loop-i-preserved g c =
     let in_addrs : i + 1 < length c.loop-i.addrs = omega (arith, inv.addresses_room, c.loop-i-test.true) in
     let across : IsOnlyAcross t a e x back = of_ok c.step.result back (λ b. IsOnlyAcross t a e x b)
     c.unwrap-back.ensures c.step.ensures.only_tile_across in
-    let seen : IsOnlyAcross t (address_in (address_at c.loop-i.addrs i)) e (address_in addr) back =
+    let seen : IsOnlyAcross t (address_in (plain_address_at c.loop-i.addrs i)) e (address_in addr) back =
     subst (λ (b : Address). IsOnlyAcross t b e (address_in addr) back) (sym inv.here)
     (subst (λ (b : Address). IsOnlyAcross t a e b back) (sym c.write-in-loop-i.ensures.its_digits) across) in
     let shown : ShowsStanding t f back c.placed-in-loop-i.result addr =
     record { tile = next; stands = c.step.ensures.stands; its_numbers = c.placed-in-loop-i.ensures; its_address = c.write-in-loop-i.ensures } in
     let ahead = ahead_at t a inv.ahead.0 path i c.loop-i-test.true inv.ahead.1 in
-    let first : address_at (slice_set c.loop-i.addrs (i + 1) addr) 0 ≡ address_at c.loop-i.addrs 0
+    let first : plain_address_at (slice_set c.loop-i.addrs (i + 1) addr) 0 ≡ plain_address_at c.loop-i.addrs 0
     = address_before c.loop-i.addrs (i + 1) 0 addr (omega arith) in
-    let first' : tile_at (slice_set c.loop-i.tiles (i + 1) c.placed-in-loop-i.result) 0 ≡ tile_at c.loop-i.tiles 0
+    let first' : plain_tile_at (slice_set c.loop-i.tiles (i + 1) c.placed-in-loop-i.result) 0 ≡ plain_tile_at c.loop-i.tiles 0
     = tile_before c.loop-i.tiles (i + 1) 0 c.placed-in-loop-i.result (omega arith) in
     record {
       tiles_room = length-set c.loop-i.tiles (i + 1) c.placed-in-loop-i.result ∙ inv.tiles_room;
       addresses_room = length-set c.loop-i.addrs (i + 1) addr ∙ inv.addresses_room;
       base = ap address_in first ∙ inv.base;
-      base_stands = subst (λ b. ShowsStanding t f 0 (tile_at (slice_set c.loop-i.tiles (i + 1) c.placed-in-loop-i.result) 0) b) (sym first)
-          (subst (λ y. ShowsStanding t f 0 y (address_at c.loop-i.addrs 0)) (sym first') inv.base_stands);
+      base_stands = subst (λ b. ShowsStanding t f 0 (plain_tile_at (slice_set c.loop-i.tiles (i + 1) c.placed-in-loop-i.result) 0) b) (sym first)
+          (subst (λ y. ShowsStanding t f 0 y (plain_address_at c.loop-i.addrs 0)) (sym first') inv.base_stands);
       each = one_walked t f path c.loop-i.tiles c.loop-i.addrs i c.placed-in-loop-i.result addr in_tiles in_addrs inv.each back seen shown;
       here = ap address_in (address_there c.loop-i.addrs (i + 1) addr in_addrs) ∙ c.write-in-loop-i.ensures.its_digits;
       stands = c.step.ensures.stands;

@@ -1,6 +1,6 @@
 use Rattle.std.proofs.Common.{◌≡◌, ◌↔◌, ◌⊎◌, subst}
 use Rattle.rule_model.specs.Tiling.{tiling_of}
-use Rattle.window_cover.specs.Limits.{IsWithinLimits}
+use Rattle.window_cover.specs.Limits.{IsCoverWithinLimits}
 use Rattle.c_values.specs.Addresses.{NamesTile}
 use Rattle.c_values.specs.Frames.{frame_in}
 use Rattle.c_values.specs.Statuses.{ok, bad_words, bad_address, no_memory}
@@ -17,14 +17,14 @@ returns-clause-wholes c =
 
 pub returns-clause-within : goal.returns-clause-within
 returns-clause-within c =
-    subst (λ r. c.glue.result ≡ ok → IsWithinLimits (tiling_of r) (frame_in c.args.frame.now)
+    subst (λ r. c.glue.result ≡ ok → IsCoverWithinLimits (tiling_of r) (frame_in c.args.frame.now)
     (window_in r.order c.args.window.now)) c.get.ensures c.glue.ensures.within
 
 pub returns-clause-answered : goal.returns-clause-answered
 returns-clause-answered c =
     subst
     (λ r. GivesWindow c.args.window.now → NamesTile (tiling_of r) c.args.frame.now.base
-    → IsWithinLimits (tiling_of r) (frame_in c.args.frame.now) (window_in r.order c.args.window.now)
+    → IsCoverWithinLimits (tiling_of r) (frame_in c.args.frame.now) (window_in r.order c.args.window.now)
     → CanBeGluedInWindow (tiling_of r) (frame_in c.args.frame.now) (window_in r.order c.args.window.now)
     → (c.glue.result ≡ ok) ⊎ (c.glue.result ≡ no_memory))
     c.get.ensures c.glue.ensures.answered

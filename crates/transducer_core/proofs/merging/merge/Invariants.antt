@@ -1,7 +1,7 @@
 use Rattle.std.proofs.Common.{◌≡◌, ℕ, ◌*◌, ◌≤◌, List, length, map, take}
 use Rattle.std.specs.List.{concat, flat_map}
 use Rattle.transducer_core.specs.Merged.{AreSpread}
-use Rattle.transducer_core.specs.Merging.{AreKept}
+use Rattle.transducer_core.specs.Merging.{AreBlocksKept}
 use Rattle.transducer_core.specs.Once.{AreOnce}
 use Rattle.transducer_core.specs.RowBlocks.{blocks_of}
 use Rattle.transducer_core.proofs.Standing.{RowsStand}
@@ -10,7 +10,7 @@ use Rattle.transducer_core.proofs.merging.merge.Given as goal
 abbrev pub invariant-loop-row : goal.invariant-loop-row
 invariant-loop-row l = record {
   blocks : List (List ℕ);
-  kept_are : AreKept blocks l.kept.words.items l.kept.ends.items;
+  kept_are : AreBlocksKept blocks l.kept.words.items l.kept.ends.items;
   places : List (List ℕ);
   stand : RowsStand l.kept.words.items places (take l.row-index (map (blocks_of l.which) l.rows.items));
   spread : AreSpread places l.starts.items;

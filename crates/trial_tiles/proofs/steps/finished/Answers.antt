@@ -2,13 +2,13 @@ use Rattle.std.proofs.Common.{◌≡◌, ◌∷◌, [], List, length, refl, sym,
 use Rattle.std.proofs.lemmas.List.Elements.{All-from_recursion}
 use Rattle.theory_addresses.proofs.Lists.{AllByRecursion-each}
 use Rattle.rule_model.specs.Tiling.{tiling_of}
-use Rattle.window_cover.specs.Found.{PlacedEdge}
+use Rattle.window_cover.specs.Found.{BorderEdge}
 use Rattle.window_cover.specs.Lifted.{CanBeLifted}
 use Rattle.window_cover.specs.Right.{IsFound}
 use Rattle.trial_tiles.proofs.steps.finished.Goals as goal
 
 -- where no edge is counted, none is open
-none_open : (border : List PlacedEdge) → length border ≡ 0 → border ≡ []
+none_open : (border : List BorderEdge) → length border ≡ 0 → border ≡ []
 none_open [] e = refl
 none_open (o ∷ os) e = absurd (cc e)
 

@@ -9,7 +9,7 @@ use Rattle.theory_walks.proofs.Ancestors.{full-later}
 use Rattle.theory_walks.proofs.Walks.{StillFits, GrowsTo-then}
 use Rattle.window_descent.specs.Climbing.{IsClimbedTo}
 use Rattle.window_cover.specs.Answered.{IsFoundBelow}
-use Rattle.window_cover.specs.Checked.{IsChecked}
+use Rattle.window_cover.specs.Checked.{IsCheckedRule}
 use Rattle.window_cover.specs.Gathering.{gathered}
 use Rattle.window_cover.specs.Runs.{AreRuns}
 use Rattle.window_cover.proofs.Arranged.{are-lifted, are-distinct}
@@ -27,7 +27,7 @@ arranged-requires-clause-no_deeper c =
     let f = c.args.frame.now in
     let g = c.climb.new.frame in
     let w = c.args.window.now in
-    let checked : IsChecked m = checked_of m _ _ c.checked-checked.ensures.rule
+    let checked : IsCheckedRule m = checked_of m _ _ c.checked-checked.ensures.rule
     c.checked-checked.ensures.accepted c.checked-checked.ensures.usable
     c.checked-checked.ensures.same_child_kinds c.uses.ensures c.kinds-usable.ensures.limits in
     let settled : IsSettled m = record { accepted = checked.accepted; usable = checked.usable; same_child_kinds = checked.same_child_kinds } in
@@ -48,7 +48,7 @@ returns-in_ok-arranged-in-Some-2-clause-answered c =
     let f = c.args.frame.now in
     let g = c.climb.new.frame in
     let w = c.args.window.now in
-    let checked : IsChecked m = checked_of m _ _ c.checked-checked.ensures.rule
+    let checked : IsCheckedRule m = checked_of m _ _ c.checked-checked.ensures.rule
     c.checked-checked.ensures.accepted c.checked-checked.ensures.usable
     c.checked-checked.ensures.same_child_kinds c.uses.ensures c.kinds-usable.ensures.limits in
     let settled : IsSettled m = record { accepted = checked.accepted; usable = checked.usable; same_child_kinds = checked.same_child_kinds } in

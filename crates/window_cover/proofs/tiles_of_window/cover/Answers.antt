@@ -3,7 +3,7 @@ use Rattle.std.proofs.lemmas.Grind.{common_steps}
 use Rattle.rule_model.specs.Tiling.{tiling_of}
 use Rattle.tile_place.specs.Searched.{placed_in}
 use Rattle.lazy_walk.specs.Standing.{Stands}
-use Rattle.window_cover.specs.Causes.{HasCause}
+use Rattle.window_cover.specs.Causes.{HasCoverCause}
 use Rattle.window_cover.specs.Windows.{AreDrawn, CoverWindow}
 use Rattle.window_cover.specs.declared.cover_fault.CoverFault.TheVariants.{NoMemory}
 use Rattle.theory_walks.proofs.Outcomes.{if_err-is}
@@ -24,7 +24,7 @@ returns-in_err-listed-clause-answered c = λ h. only_memory c.from_residual-in_e
 
 pub returns-in_err-listed-clause-cause : goal.returns-in_err-listed-clause-cause
 returns-in_err-listed-clause-cause c =
-    if_err-is (HasCause (tiling_of c.args.machine.now) c.args.frame.now c.by_search.new.frame
+    if_err-is (HasCoverCause (tiling_of c.args.machine.now) c.args.frame.now c.by_search.new.frame
     c.args.window.now) c.from_residual-in_err-listed.result NoMemory
     c.from_residual-in_err-listed.ensures.1 tt
 

@@ -8,7 +8,7 @@ use Rattle.tile_place.proofs.FactorPowers.{power-read}
 use Rattle.tile_place.proofs.Plane.{IsSettled}
 use Rattle.window_descent.specs.declared.standing.Standing.{Standing}
 use Rattle.window_descent.specs.declared.standing.Standing.TheVariants.{Across}
-use Rattle.window_descent.specs.Bounds.{AreLimits, IsBetween}
+use Rattle.window_descent.specs.Bounds.{AreLimits, LiesBetween}
 use Rattle.window_descent.specs.Parts.{IsPlacedBy}
 use Rattle.window_descent.specs.Rows.{levels_of, scale_of}
 use Rattle.window_descent.proofs.PartBounds.{placed-between}
@@ -45,4 +45,4 @@ returns-clause-placed c =
     (λ s is known. placed-between m settled w level p c.requires.part c.requires.some_width
     c.requires.some_height (scale_of rows level) scale_is bounds limits
     c.in_ok-bounds.ensures.bounds (subst (λ q. AreLimits q w p.motion.shift limits) same c.in_ok-limits.ensures) s
-    (subst (IsBetween bounds limits) (sym is) c.beside.ensures) known)
+    (subst (LiesBetween bounds limits) (sym is) c.beside.ensures) known)

@@ -6,7 +6,7 @@ use Rattle.cyclo_points.proofs.Coefficients.{point_text-number, coefficients_of,
 use Rattle.rule_model.specs.Tiling.{tiling_of}
 use Rattle.tile_shape.specs.Views.{address_of}
 use Rattle.addr_calc.specs.Calculation.{AllFit}
-use Rattle.addr_calc.specs.Printed.{letter, place_line}
+use Rattle.addr_calc.specs.Printed.{letter, line_of_place}
 use Rattle.addr_calc.proofs.calculation.Calculation.place.Goals as goal
 
 pub place-requires : goal.place-requires
@@ -20,7 +20,7 @@ returns-in_ok-print-in-Ok-clause-done c =
     let m = c.in-Ok.motion in
     let n = c.args.name.number in
     record {
-      printed = place_line o n a.kind (motion_in o m);
+      printed = line_of_place o n a.kind (motion_in o m);
       does = record {
         address = a;
         bound = sym c.in-Some.ensures;

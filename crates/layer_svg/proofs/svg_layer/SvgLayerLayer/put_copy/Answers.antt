@@ -3,7 +3,7 @@ use Rattle.std.proofs.lemmas.Grind.{common_steps}
 use Rattle.std.proofs.lemmas.List.{with_items_is}
 use Rattle.std.proofs.lemmas.List.Elements.{All-same}
 use Rattle.layer_api.specs.SvgText.{head_text}
-use Rattle.layer_svg.specs.Kept.{IsKept}
+use Rattle.layer_svg.specs.Kept.{IsTextKept}
 use Rattle.layer_svg.proofs.Writing.{first_put, next_put}
 use Rattle.layer_svg.proofs.svg_layer.SvgLayerLayer.put_copy.Goals.{then-is_empty, else-is_empty}
 use Rattle.layer_svg.proofs.svg_layer.SvgLayerLayer.put_copy.Goals as goal
@@ -11,7 +11,7 @@ use Rattle.layer_svg.proofs.svg_layer.SvgLayerLayer.put_copy.Goals as goal
 pub invariant_of-self : goal.invariant_of-self
 invariant_of-self c =
     let size : length c.put_path.new.kept ≡ c.self.inside.kept.len = omega (arith, c.put_path.auto.kept, c.as_mut_slice.ensures.len) in
-    let all = All-same (IsKept c.self.inside.view) _ _ (with_items_is c.self.inside.kept c.put_path.new.kept size) c.put_path.ensures.kept in
+    let all = All-same (IsTextKept c.self.inside.view) _ _ (with_items_is c.self.inside.kept c.put_path.new.kept size) c.put_path.ensures.kept in
     elim c.if-is_empty.branch [
       | then-is_empty w ↦ rw w.self-inside-is (c.self.invariant.0, all)
       | else-is_empty w ↦ rw w.self-inside-is (c.self.invariant.0, all)
@@ -20,14 +20,14 @@ invariant_of-self c =
 pub invariant_of-self-2 : goal.invariant_of-self-2
 invariant_of-self-2 c =
     let size : length c.put_path.new.kept ≡ c.self.inside.kept.len = omega (arith, c.put_path.auto.kept, c.as_mut_slice.ensures.len) in
-    let all = All-same (IsKept c.self.inside.view) _ _ (with_items_is c.self.inside.kept c.put_path.new.kept size) c.put_path.ensures.kept in
+    let all = All-same (IsTextKept c.self.inside.view) _ _ (with_items_is c.self.inside.kept c.put_path.new.kept size) c.put_path.ensures.kept in
     elim c.if-is_empty.branch [
       | then-is_empty w ↦ rw w.self-inside-is (c.self.invariant.0, all)
       | else-is_empty w ↦ rw w.self-inside-is (c.self.invariant.0, all)
     ]
 
 pub put_path-requires-clause-kept : goal.put_path-requires-clause-kept
-put_path-requires-clause-kept c = All-same (IsKept c.self.inside.view) _ _ c.as_mut_slice.ensures.value c.self.invariant.1
+put_path-requires-clause-kept c = All-same (IsTextKept c.self.inside.view) _ _ c.as_mut_slice.ensures.value c.self.invariant.1
 
 pub returns-clause-ok : goal.returns-clause-ok
 returns-clause-ok c =

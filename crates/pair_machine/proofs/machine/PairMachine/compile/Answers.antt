@@ -6,7 +6,7 @@ use Rattle.theory_addresses.specs.Search.{IsAmong}
 use Rattle.theory_addresses.specs.Tables.{Tables}
 use Rattle.pair_machine.specs.declared.node.Node as program
 use Rattle.pair_machine.specs.Nodes.{Node, IsNode}
-use Rattle.pair_machine.specs.Numbers.{width_of, number_of}
+use Rattle.pair_machine.specs.Numbers.{width_of, node_number}
 use Rattle.pair_machine.specs.Machine.{IsMachine}
 use Rattle.pair_machine.specs.Views.{as_node, as_row_pair}
 use Rattle.pair_machine.proofs.Places.{read-among}
@@ -31,9 +31,9 @@ index_mut-requires c =
     let node = (c.in_ok-nodes.ensures.all (as_node (get_or c.deref-node-items.result.now c.loop-node.node-index none))).0 i in
     let within = number_within (width_of c.args.tables.now) (as_node (get_or c.deref-node-items.result.now c.loop-node.node-index none))
     (node_small c.args.tables.now (as_node (get_or c.deref-node-items.result.now c.loop-node.node-index none)) c.width-width.ensures.coherent node) in
-    let number : c.number.result ≡ number_of (width_of c.args.tables.now)
+    let number : c.number.result ≡ node_number (width_of c.args.tables.now)
     (as_node (get_or c.deref-node-items.result.now c.loop-node.node-index none)) =
-    c.number.ensures ∙ ap (λ (w : ℕ). number_of w
+    c.number.ensures ∙ ap (λ (w : ℕ). node_number w
     (as_node (get_or c.deref-node-items.result.now c.loop-node.node-index none)))
     c.width-width.ensures.width in
     omega (arith, number, within, c.loop-node.invariant.numbered.size)
@@ -46,9 +46,9 @@ loop-node-preserved c =
     let are : (m : Node) → IsAmong m (map as_node c.deref-node-items.result.now) → IsNode c.args.tables.now m =
     λ m j. let k : IsAmong m (map as_node c.in_ok-nodes.nodes.items) = rw (← c.deref-node-items.ensures.value)
     j in (c.in_ok-nodes.ensures.all m).0 k in
-    let number : c.number.result ≡ number_of (width_of c.args.tables.now)
+    let number : c.number.result ≡ node_number (width_of c.args.tables.now)
     (as_node (get_or c.deref-node-items.result.now c.loop-node.node-index none)) =
-    c.number.ensures ∙ ap (λ (w : ℕ). number_of w
+    c.number.ensures ∙ ap (λ (w : ℕ). node_number w
     (as_node (get_or c.deref-node-items.result.now c.loop-node.node-index none)))
     c.width-width.ensures.width in
     record {

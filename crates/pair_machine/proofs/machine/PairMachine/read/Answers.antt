@@ -2,7 +2,7 @@ use Rattle.std.proofs.Common.{◌≡◌, ◌-◌, ℕ, length, map, drop, arith,
 use Rattle.tile_shape.specs.Views.{address_of, step_of}
 use Rattle.theory_addresses.specs.Coherent.{IsCoherent}
 use Rattle.theory_addresses.proofs.Chains.{chain_of}
-use Rattle.pair_machine.specs.Kept.{IsKept}
+use Rattle.pair_machine.specs.Kept.{ArePairsKept}
 use Rattle.pair_machine.specs.Reading.{pairs_read}
 use Rattle.pair_machine.proofs.Ending.{nothing_kept, same_read, same_views, ends}
 use Rattle.pair_machine.proofs.Levels.{AtLevel, at_level, kept_below, same_below}
@@ -97,6 +97,6 @@ returns-then-end_here c =
 pub returns : goal.returns
 returns c =
     let none : c.loop-level.level ≡ 0 = omega arith in
-    subst (λ (n : ℕ). IsKept c.loop-level.partners
+    subst (λ (n : ℕ). ArePairsKept c.loop-level.partners
     (pairs_read c.args.self.now (drop n (map step_of c.args.a.now.digits.items))
     (drop n (map step_of c.args.b.now.digits.items)))) none c.loop-level.invariant.kept

@@ -6,7 +6,7 @@ use Rattle.tile_shape.specs.Views.{step_of}
 use Rattle.theory_addresses.specs.Search.{IsAmong}
 use Rattle.pair_machine.specs.declared.edge_pair.EdgePair.{EdgePair}
 use Rattle.pair_machine.specs.Between.{Pair}
-use Rattle.pair_machine.specs.Kept.{IsKept, IsFunctional}
+use Rattle.pair_machine.specs.Kept.{ArePairsKept, IsFunctional}
 use Rattle.pair_machine.specs.Nodes.{row_of}
 use Rattle.pair_machine.specs.Reading.{step_pairs, left_of, node_of}
 use Rattle.pair_machine.specs.Views.{as_pair, as_row_pair}
@@ -49,9 +49,9 @@ loop-pair-preserved c =
     let p = as_pair (get_or c.as_slice-pair-items.result.now c.loop-pair.pair-index none) in
     let row : map as_row_pair c.deref.result.now ≡ row_of c.args.self.now
     (node_of (step_of c.args.x) (step_of c.args.y) p) = rw c.deref.ensures.value c.row-row.ensures.row in
-    let more : (ps : List Pair) → IsKept c.loop-pair.partners ps
+    let more : (ps : List Pair) → ArePairsKept c.loop-pair.partners ps
     → IsFunctional (ps ++ left_of (row_of c.args.self.now (node_of (step_of c.args.x) (step_of c.args.y) p)) c.args.x.child c.args.y.child)
-    → IsKept c.keep_row.new.self (ps ++ left_of
+    → ArePairsKept c.keep_row.new.self (ps ++ left_of
     (row_of c.args.self.now (node_of (step_of c.args.x) (step_of c.args.y) p)) c.args.x.child
     c.args.y.child) = rw (← row) c.keep_row.ensures in
     let inside : c.loop-pair.pair-index < length c.args.above.now =
@@ -71,5 +71,5 @@ returns c =
       length-map c.as_slice-pair-items.result.now as_pair,
       c.loop-pair-test.false,
     ) in
-    subst (λ (l : List Pair). IsKept c.loop-pair.partners (step_pairs c.args.self.now (step_of c.args.x) (step_of c.args.y) c.args.fresh l))
+    subst (λ (l : List Pair). ArePairsKept c.loop-pair.partners (step_pairs c.args.self.now (step_of c.args.x) (step_of c.args.y) c.args.fresh l))
     (ap (λ (n : ℕ). take n c.args.above.now) end ∙ take-length c.args.above.now) c.loop-pair.invariant

@@ -2,7 +2,7 @@ use Rattle.std.proofs.Common.{◌≡◌, ℕ, [], length, arith, subst, refl}
 use Rattle.edge_tables.specs.Views.{as_contact}
 use Rattle.theory_addresses.specs.Tables.{kind_tables, contacts_of}
 use Rattle.theory_addresses.proofs.Mated.{contact_exists}
-use Rattle.pair_machine.specs.Kept.{IsKept}
+use Rattle.pair_machine.specs.Kept.{ArePairsKept}
 use Rattle.pair_machine.proofs.Keeping.{between_upto, between_none, between_all}
 use Rattle.pair_machine.proofs.Ending.{nothing_kept}
 use Rattle.pair_machine.proofs.Levels.{meet_more}
@@ -31,5 +31,5 @@ returns c =
     let end : c.loop-edge.edge ≡ length (contacts_of c.args.tables.now c.args.kind c.args.mine) = omega
     (arith, each, c.edges-edge-end.ensures.count) in
     rw (← between_all c.args.tables.now c.args.kind c.args.mine c.args.theirs)
-    (subst (λ (n : ℕ). IsKept c.loop-edge.partners
+    (subst (λ (n : ℕ). ArePairsKept c.loop-edge.partners
     (between_upto c.args.tables.now c.args.kind c.args.mine c.args.theirs n)) end c.loop-edge.invariant)

@@ -1,6 +1,6 @@
 use Rattle.std.proofs.Common.{◌≡◌, ◌∙◌, ◌<◌, ℕ, List, [], ◌∷◌, ◌++◌, length, map, Some, None, ap, arith}
 use Rattle.std.proofs.lemmas.List.{length-map, map-append}
-use Rattle.pair_machine.specs.Alike.{key_of}
+use Rattle.pair_machine.specs.Alike.{row_key}
 use Rattle.pair_machine.specs.Nodes.{RowPair, row_of}
 use Rattle.pair_machine.specs.Numbers.{width_of}
 use Rattle.pair_machine.specs.Views.{as_node, as_row_pair}
@@ -26,30 +26,30 @@ key-key-requires-clause-theirs c = omega (
 
 pub index-requires : goal.index-requires
 index-requires c =
-    let key : c.key-key.result ≡ key_of (width_of c.args.tables.now) c.args.self.now.firsts.items (as_node c.args.node) =
-    c.key-key.ensures ∙ ap (λ (w : ℕ). key_of w c.args.self.now.firsts.items (as_node c.args.node)) c.width.ensures.width in
+    let key : c.key-key.result ≡ row_key (width_of c.args.tables.now) c.args.self.now.firsts.items (as_node c.args.node) =
+    c.key-key.ensures ∙ ap (λ (w : ℕ). row_key w c.args.self.now.firsts.items (as_node c.args.node)) c.width.ensures.width in
     let within = key_within c.args.tables.now c.args.self.now.firsts.items (as_node c.args.node)
     c.requires.coherent c.requires.indexed.firsts_are c.requires.node in
     omega (arith, key, within, c.requires.indexed.size)
 
 pub index_mut-requires : goal.index_mut-requires
 index_mut-requires c =
-    let key : c.key-key.result ≡ key_of (width_of c.args.tables.now) c.args.self.now.firsts.items (as_node c.args.node) =
-    c.key-key.ensures ∙ ap (λ (w : ℕ). key_of w c.args.self.now.firsts.items (as_node c.args.node)) c.width.ensures.width in
+    let key : c.key-key.result ≡ row_key (width_of c.args.tables.now) c.args.self.now.firsts.items (as_node c.args.node) =
+    c.key-key.ensures ∙ ap (λ (w : ℕ). row_key w c.args.self.now.firsts.items (as_node c.args.node)) c.width.ensures.width in
     let within = key_within c.args.tables.now c.args.self.now.firsts.items (as_node c.args.node)
     c.requires.coherent c.requires.indexed.firsts_are c.requires.node in
     omega (arith, key, within, c.requires.indexed.size)
 
 pub returns-in-Some-clause-kept : goal.returns-in-Some-clause-kept
 returns-in-Some-clause-kept c =
-    let key : c.key-key.result ≡ key_of (width_of c.args.tables.now) c.args.self.now.firsts.items (as_node c.args.node) =
-    c.key-key.ensures ∙ ap (λ (w : ℕ). key_of w c.args.self.now.firsts.items (as_node c.args.node)) c.width.ensures.width in
+    let key : c.key-key.result ≡ row_key (width_of c.args.tables.now) c.args.self.now.firsts.items (as_node c.args.node) =
+    c.key-key.ensures ∙ ap (λ (w : ℕ). row_key w c.args.self.now.firsts.items (as_node c.args.node)) c.width.ensures.width in
     let within = key_within c.args.tables.now c.args.self.now.firsts.items (as_node c.args.node)
     c.requires.coherent c.requires.indexed.firsts_are c.requires.node in
-    let inside : key_of (width_of c.args.tables.now) c.args.self.now.firsts.items (as_node c.args.node) <
+    let inside : row_key (width_of c.args.tables.now) c.args.self.now.firsts.items (as_node c.args.node) <
     length c.args.self.now.places.items = omega (arith, within, c.requires.indexed.size) in
     let at = read_at c.args.self.now.places.items
-    (key_of (width_of c.args.tables.now) c.args.self.now.firsts.items (as_node c.args.node))
+    (row_key (width_of c.args.tables.now) c.args.self.now.firsts.items (as_node c.args.node))
     c.key-key.result c.index.result.now (Some c.in-Some.place) inside key c.index.ensures c.in-Some.is in
     place_old c.args.tables.now c.args.self.now.firsts.items c.args.self.now.places.items
     (map (λ r. map as_row_pair r.items) c.args.self.now.list.items) (as_node c.args.node) c.in-Some.place
@@ -57,14 +57,14 @@ returns-in-Some-clause-kept c =
 
 pub returns-clause-indexed : goal.returns-clause-indexed
 returns-clause-indexed c =
-    let key : c.key-key.result ≡ key_of (width_of c.args.tables.now) c.args.self.now.firsts.items (as_node c.args.node) =
-    c.key-key.ensures ∙ ap (λ (w : ℕ). key_of w c.args.self.now.firsts.items (as_node c.args.node)) c.width.ensures.width in
+    let key : c.key-key.result ≡ row_key (width_of c.args.tables.now) c.args.self.now.firsts.items (as_node c.args.node) =
+    c.key-key.ensures ∙ ap (λ (w : ℕ). row_key w c.args.self.now.firsts.items (as_node c.args.node)) c.width.ensures.width in
     let within = key_within c.args.tables.now c.args.self.now.firsts.items (as_node c.args.node)
     c.requires.coherent c.requires.indexed.firsts_are c.requires.node in
-    let inside : key_of (width_of c.args.tables.now) c.args.self.now.firsts.items (as_node c.args.node) <
+    let inside : row_key (width_of c.args.tables.now) c.args.self.now.firsts.items (as_node c.args.node) <
     length c.args.self.now.places.items = omega (arith, within, c.requires.indexed.size) in
     let at = read_at c.args.self.now.places.items
-    (key_of (width_of c.args.tables.now) c.args.self.now.firsts.items (as_node c.args.node))
+    (row_key (width_of c.args.tables.now) c.args.self.now.firsts.items (as_node c.args.node))
     c.key-key.result c.index.result.now None inside key c.index.ensures c.in_default.is in
     let more : map (λ r. map as_row_pair r.items) c.push.new.self.items ≡ map (λ r. map as_row_pair r.items)
     c.args.self.now.list.items ++ row_of c.args.tables.now (as_node c.args.node) ∷ [] =
@@ -85,14 +85,14 @@ returns-clause-indexed c =
 
 pub returns-clause-kept : goal.returns-clause-kept
 returns-clause-kept c =
-    let key : c.key-key.result ≡ key_of (width_of c.args.tables.now) c.args.self.now.firsts.items (as_node c.args.node) =
-    c.key-key.ensures ∙ ap (λ (w : ℕ). key_of w c.args.self.now.firsts.items (as_node c.args.node)) c.width.ensures.width in
+    let key : c.key-key.result ≡ row_key (width_of c.args.tables.now) c.args.self.now.firsts.items (as_node c.args.node) =
+    c.key-key.ensures ∙ ap (λ (w : ℕ). row_key w c.args.self.now.firsts.items (as_node c.args.node)) c.width.ensures.width in
     let within = key_within c.args.tables.now c.args.self.now.firsts.items (as_node c.args.node)
     c.requires.coherent c.requires.indexed.firsts_are c.requires.node in
-    let inside : key_of (width_of c.args.tables.now) c.args.self.now.firsts.items (as_node c.args.node) <
+    let inside : row_key (width_of c.args.tables.now) c.args.self.now.firsts.items (as_node c.args.node) <
     length c.args.self.now.places.items = omega (arith, within, c.requires.indexed.size) in
     let at = read_at c.args.self.now.places.items
-    (key_of (width_of c.args.tables.now) c.args.self.now.firsts.items (as_node c.args.node))
+    (row_key (width_of c.args.tables.now) c.args.self.now.firsts.items (as_node c.args.node))
     c.key-key.result c.index.result.now None inside key c.index.ensures c.in_default.is in
     let more : map (λ r. map as_row_pair r.items) c.push.new.self.items ≡ map (λ r. map as_row_pair r.items)
     c.args.self.now.list.items ++ row_of c.args.tables.now (as_node c.args.node) ∷ [] =

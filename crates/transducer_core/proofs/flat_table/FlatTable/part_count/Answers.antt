@@ -2,7 +2,7 @@ use Rattle.std.proofs.Common.{◌+◌, List, ℕ, Some, get_or, subst, sym, ap, 
 use Rattle.theory_addresses.specs.Tables.{Tables}
 use Rattle.transducer_core.specs.Flat.{lists_of}
 use Rattle.transducer_core.specs.FlatTables.{IsFlat}
-use Rattle.transducer_core.specs.Merging.{AreKept}
+use Rattle.transducer_core.specs.Merging.{AreBlocksKept}
 use Rattle.transducer_core.proofs.Joining.{count_read}
 use Rattle.transducer_core.proofs.Standing.{read_at}
 use Rattle.transducer_core.proofs.flat_table.FlatTable.part_count.Goals as goal
@@ -11,8 +11,9 @@ pub bounds-ends-types : goal.bounds-ends-types
 bounds-ends-types c =
     let flat = subst (λ (t : Tables). IsFlat t c.self.inside.lists c.self.inside.child_kinds
     c.self.inside.contacts c.self.inside.parts) c.self.view_is c.self.invariant in
-    let lists : AreKept (lists_of c.args.self.now) c.self.inside.lists.items.items c.as_slice-ends.result.now =
-    subst (λ (l : List ℕ). AreKept (lists_of c.args.self.now) c.self.inside.lists.items.items l) (sym c.as_slice-ends.ensures.value) flat.lists_at in
+    let lists : AreBlocksKept (lists_of c.args.self.now) c.self.inside.lists.items.items c.as_slice-ends.result.now =
+    subst (λ (l : List ℕ). AreBlocksKept (lists_of c.args.self.now) c.self.inside.lists.items.items l) (sym c.as_slice-ends.ensures.value)
+    flat.lists_at in
     let r = count_read c.args.self.now c.self.inside.lists.items.items c.as_slice-ends.result.now c.args.kind
     c.args.edge flat.coherent lists c.requires.exists in
     omega (arith, r.number, c.from.ensures)
@@ -21,8 +22,9 @@ pub overflow_add-begin-2 : goal.overflow_add-begin-2
 overflow_add-begin-2 c =
     let flat = subst (λ (t : Tables). IsFlat t c.self.inside.lists c.self.inside.child_kinds
     c.self.inside.contacts c.self.inside.parts) c.self.view_is c.self.invariant in
-    let lists : AreKept (lists_of c.args.self.now) c.self.inside.lists.items.items c.as_slice-ends.result.now =
-    subst (λ (l : List ℕ). AreKept (lists_of c.args.self.now) c.self.inside.lists.items.items l) (sym c.as_slice-ends.ensures.value) flat.lists_at in
+    let lists : AreBlocksKept (lists_of c.args.self.now) c.self.inside.lists.items.items c.as_slice-ends.result.now =
+    subst (λ (l : List ℕ). AreBlocksKept (lists_of c.args.self.now) c.self.inside.lists.items.items l) (sym c.as_slice-ends.ensures.value)
+    flat.lists_at in
     let r = count_read c.args.self.now c.self.inside.lists.items.items c.as_slice-ends.result.now c.args.kind
     c.args.edge flat.coherent lists c.requires.exists in
     rw (c.from.ensures, c.from-2.ensures) (omega (arith, r.place, c.self.inside.lists.items.ok, c.self.inside.lists.items.small))
@@ -31,8 +33,9 @@ pub index-requires : goal.index-requires
 index-requires c =
     let flat = subst (λ (t : Tables). IsFlat t c.self.inside.lists c.self.inside.child_kinds
     c.self.inside.contacts c.self.inside.parts) c.self.view_is c.self.invariant in
-    let lists : AreKept (lists_of c.args.self.now) c.self.inside.lists.items.items c.as_slice-ends.result.now =
-    subst (λ (l : List ℕ). AreKept (lists_of c.args.self.now) c.self.inside.lists.items.items l) (sym c.as_slice-ends.ensures.value) flat.lists_at in
+    let lists : AreBlocksKept (lists_of c.args.self.now) c.self.inside.lists.items.items c.as_slice-ends.result.now =
+    subst (λ (l : List ℕ). AreBlocksKept (lists_of c.args.self.now) c.self.inside.lists.items.items l) (sym c.as_slice-ends.ensures.value)
+    flat.lists_at in
     let r = count_read c.args.self.now c.self.inside.lists.items.items c.as_slice-ends.result.now c.args.kind
     c.args.edge flat.coherent lists c.requires.exists in
     rw (c.from.ensures, c.from-2.ensures) (omega (arith, r.place, c.self.inside.lists.items.ok))
@@ -41,8 +44,9 @@ pub bounds-ends-ty : goal.bounds-ends-ty
 bounds-ends-ty c =
     let flat = subst (λ (t : Tables). IsFlat t c.self.inside.lists c.self.inside.child_kinds
     c.self.inside.contacts c.self.inside.parts) c.self.view_is c.self.invariant in
-    let lists : AreKept (lists_of c.args.self.now) c.self.inside.lists.items.items c.as_slice-ends.result.now =
-    subst (λ (l : List ℕ). AreKept (lists_of c.args.self.now) c.self.inside.lists.items.items l) (sym c.as_slice-ends.ensures.value) flat.lists_at in
+    let lists : AreBlocksKept (lists_of c.args.self.now) c.self.inside.lists.items.items c.as_slice-ends.result.now =
+    subst (λ (l : List ℕ). AreBlocksKept (lists_of c.args.self.now) c.self.inside.lists.items.items l) (sym c.as_slice-ends.ensures.value)
+    flat.lists_at in
     let r = count_read c.args.self.now c.self.inside.lists.items.items c.as_slice-ends.result.now c.args.kind
     c.args.edge flat.coherent lists c.requires.exists in
     let read = read_at c.self.inside.lists.items.items
@@ -55,8 +59,9 @@ pub bounds-ends-ty-2 : goal.bounds-ends-ty-2
 bounds-ends-ty-2 c =
     let flat = subst (λ (t : Tables). IsFlat t c.self.inside.lists c.self.inside.child_kinds
     c.self.inside.contacts c.self.inside.parts) c.self.view_is c.self.invariant in
-    let lists : AreKept (lists_of c.args.self.now) c.self.inside.lists.items.items c.as_slice-ends.result.now =
-    subst (λ (l : List ℕ). AreKept (lists_of c.args.self.now) c.self.inside.lists.items.items l) (sym c.as_slice-ends.ensures.value) flat.lists_at in
+    let lists : AreBlocksKept (lists_of c.args.self.now) c.self.inside.lists.items.items c.as_slice-ends.result.now =
+    subst (λ (l : List ℕ). AreBlocksKept (lists_of c.args.self.now) c.self.inside.lists.items.items l) (sym c.as_slice-ends.ensures.value)
+    flat.lists_at in
     let r = count_read c.args.self.now c.self.inside.lists.items.items c.as_slice-ends.result.now c.args.kind
     c.args.edge flat.coherent lists c.requires.exists in
     let read = read_at c.self.inside.lists.items.items
@@ -69,8 +74,9 @@ pub overflow_sub-result : goal.overflow_sub-result
 overflow_sub-result c =
     let flat = subst (λ (t : Tables). IsFlat t c.self.inside.lists c.self.inside.child_kinds
     c.self.inside.contacts c.self.inside.parts) c.self.view_is c.self.invariant in
-    let lists : AreKept (lists_of c.args.self.now) c.self.inside.lists.items.items c.as_slice-ends.result.now =
-    subst (λ (l : List ℕ). AreKept (lists_of c.args.self.now) c.self.inside.lists.items.items l) (sym c.as_slice-ends.ensures.value) flat.lists_at in
+    let lists : AreBlocksKept (lists_of c.args.self.now) c.self.inside.lists.items.items c.as_slice-ends.result.now =
+    subst (λ (l : List ℕ). AreBlocksKept (lists_of c.args.self.now) c.self.inside.lists.items.items l) (sym c.as_slice-ends.ensures.value)
+    flat.lists_at in
     let r = count_read c.args.self.now c.self.inside.lists.items.items c.as_slice-ends.result.now c.args.kind
     c.args.edge flat.coherent lists c.requires.exists in
     let read = read_at c.self.inside.lists.items.items
@@ -83,8 +89,9 @@ pub overflow_cast-result : goal.overflow_cast-result
 overflow_cast-result c =
     let flat = subst (λ (t : Tables). IsFlat t c.self.inside.lists c.self.inside.child_kinds
     c.self.inside.contacts c.self.inside.parts) c.self.view_is c.self.invariant in
-    let lists : AreKept (lists_of c.args.self.now) c.self.inside.lists.items.items c.as_slice-ends.result.now =
-    subst (λ (l : List ℕ). AreKept (lists_of c.args.self.now) c.self.inside.lists.items.items l) (sym c.as_slice-ends.ensures.value) flat.lists_at in
+    let lists : AreBlocksKept (lists_of c.args.self.now) c.self.inside.lists.items.items c.as_slice-ends.result.now =
+    subst (λ (l : List ℕ). AreBlocksKept (lists_of c.args.self.now) c.self.inside.lists.items.items l) (sym c.as_slice-ends.ensures.value)
+    flat.lists_at in
     let r = count_read c.args.self.now c.self.inside.lists.items.items c.as_slice-ends.result.now c.args.kind
     c.args.edge flat.coherent lists c.requires.exists in
     let read = read_at c.self.inside.lists.items.items
@@ -97,8 +104,9 @@ pub returns : goal.returns
 returns c =
     let flat = subst (λ (t : Tables). IsFlat t c.self.inside.lists c.self.inside.child_kinds
     c.self.inside.contacts c.self.inside.parts) c.self.view_is c.self.invariant in
-    let lists : AreKept (lists_of c.args.self.now) c.self.inside.lists.items.items c.as_slice-ends.result.now =
-    subst (λ (l : List ℕ). AreKept (lists_of c.args.self.now) c.self.inside.lists.items.items l) (sym c.as_slice-ends.ensures.value) flat.lists_at in
+    let lists : AreBlocksKept (lists_of c.args.self.now) c.self.inside.lists.items.items c.as_slice-ends.result.now =
+    subst (λ (l : List ℕ). AreBlocksKept (lists_of c.args.self.now) c.self.inside.lists.items.items l) (sym c.as_slice-ends.ensures.value)
+    flat.lists_at in
     let r = count_read c.args.self.now c.self.inside.lists.items.items c.as_slice-ends.result.now c.args.kind
     c.args.edge flat.coherent lists c.requires.exists in
     let read = read_at c.self.inside.lists.items.items

@@ -3,7 +3,7 @@ use Rattle.std.proofs.lemmas.Result.{IfOk-weaker}
 use Rattle.rule_model.specs.declared.rule.Rule.{Rule}
 use Rattle.tile_place.specs.declared.placed_tile.PlacedTile.{PlacedTile}
 use Rattle.window_cover.specs.Arranged.{AreArranged}
-use Rattle.window_cover.specs.Checked.{IsChecked}
+use Rattle.window_cover.specs.Checked.{IsCheckedRule}
 use Rattle.window_cover.specs.Found.{Found}
 use Rattle.window_cover.specs.Lifted.{CanBeLifted}
 use Rattle.window_cover.specs.Runs.{seen}
@@ -16,7 +16,7 @@ its : (c : After-arranged) (tiles : List PlacedTile) → AreArranged c.args.fram
     → AreArranged c.args.frame.now c.args.self.found tiles
 its c tiles a = subst (λ (xs : List Found). AreArranged c.args.frame.now xs tiles) c.in_ok-runs.ensures.same a
 
-laws : (c : After-arranged) (m : Rule) → IsChecked m → HasLaws m
+laws : (c : After-arranged) (m : Rule) → IsCheckedRule m → HasLaws m
 laws c m checked = laws_of m checked c.end_laws.ensures.points c.end_laws.ensures.patch
     c.end_laws.ensures.known c.end_laws.ensures.open_test c.end_laws.ensures.finish c.grown_fits_law.ensures
 

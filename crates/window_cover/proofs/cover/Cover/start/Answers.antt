@@ -6,11 +6,11 @@ use Rattle.rule_model.specs.Tiling.{tiling_of}
 use Rattle.window_cover.specs.declared.cover_fault.CoverFault.TheVariants.{CoordLimit}
 use Rattle.window_cover.specs.declared.found_tile.FoundTile.{FoundTile}
 use Rattle.tile_place.specs.Corners.{AreCorners}
-use Rattle.window_cover.specs.Causes.{HasCause}
+use Rattle.window_cover.specs.Causes.{HasCoverCause}
 use Rattle.window_cover.specs.Kept.{found_in, AreKept}
 use Rattle.tile_place.specs.Keys.{FitsKey}
 use Rattle.window_cover.specs.NewEdges.{AreNew}
-use Rattle.window_cover.specs.Windows.{IsLeastEnough}
+use Rattle.window_cover.specs.Windows.{IsLeastForWindow}
 use Rattle.theory_walks.proofs.Brought.{Brings, brought}
 use Rattle.window_cover.specs.SearchLaws.{HasSearchLaws}
 use Rattle.theory_walks.proofs.Outcomes.{if_err-is}
@@ -30,7 +30,7 @@ brings c = brought HasSearchLaws c.args.machine.now _ _ _ c.checked-checked.ensu
     c.checked-checked.ensures.same_child_kinds
     c.uses.ensures c.kinds-usable.ensures.limits c.order-order.ensures.order c.search_laws.ensures c.grown_fits_law.ensures
 
-not_beyond : (c : After-contain) (n : ℕ) → IsLeastEnough (tiling_of c.args.machine.now) c.args.frame.now
+not_beyond : (c : After-contain) (n : ℕ) → IsLeastForWindow (tiling_of c.args.machine.now) c.args.frame.now
     c.args.window.now n → length c.contain.new.self.digits ≤ n
 not_beyond c =
     let B = brings c in
@@ -79,7 +79,7 @@ returns-in_err-tile-clause-answered c = λ within. let e = c.in_err-tile.ensures
 
 pub returns-in_err-tile-clause-cause : goal.returns-in_err-tile-clause-cause
 returns-in_err-tile-clause-cause c = if_err-is
-    (HasCause (tiling_of c.args.machine.now) c.args.frame.now c.contain.new.self c.args.window.now)
+    (HasCoverCause (tiling_of c.args.machine.now) c.args.frame.now c.contain.new.self c.args.window.now)
     c.from_residual.result (CoordLimit c.in_err-tile.field-0.0.value) c.from_residual.ensures.1
     (inl (record {
       is_first = c.in_err-tile.ensures.limit.first;
@@ -121,7 +121,7 @@ returns-in_err-admit-clause-cause c =
       border = map packed (map unpacked c.new-3.result);
     } in
     let none : length c0.found ≡ 0 = ap (λ xs. length (found_in c.new-2.result.items xs)) c.new.ensures.items in
-    if_err-is (HasCause t f k w) c.from_residual-in_err-admit.result c.in_err-admit.field-0.0
+    if_err-is (HasCoverCause t f k w) c.from_residual-in_err-admit.result c.in_err-admit.field-0.0
     c.from_residual-in_err-admit.ensures.1 (cause_first m B.settled B.fits B.laws f c.requires.frame k
     c.contain.ensures.frame w c.requires.window_fits c.contain.ensures.least tile
     c.in_ok-tile.ensures.stands c.in_ok-tile.ensures.only_tile c0 none c.in_err-admit.field-0.0
