@@ -298,18 +298,51 @@ class Patch:
         return frozen(np.nanmean(self.xy(), 1))
 
     def chosen(self, tiles: Tiles) -> "Patch":
-        """The patch of some of its tiles, given by their numbers or by a mask. IndexError where there is no
-        such tile."""
+        """The patch of some of its tiles.
+
+        Parameters
+        ----------
+        tiles : int, sequence of int, mask or slice
+            Which of them.
+
+        Returns
+        -------
+        Patch
+            Its tiles in the order that is given.
+
+        Raises
+        ------
+        IndexError
+            There is no such tile.
+        """
         some = numbers_of_tiles("tiles", tiles, len(self))
         return Patch(self.rule, taken(self.tiles, some), named(self._addresses, some))
 
     def connected(self, count: int, centre: Sequence[float] = (0.0, 0.0), shape: str = "nearest") -> "Patch":
-        """The patch of `count` tiles, connected by edges, that grows from the tile nearest to a point. The
-        next tile is always the one nearest to that point that shares an edge with the patch.
+        """A patch that grows from the tile nearest to a point.
 
-        With shape="round" or "rectangle" (four by three) it is smoother: the next tile is the one that
-        reaches least far out, tiles in notches come first, the patch stays without holes, and no tile is left
-        at the rim that shares just one edge, as far as others can stand for it."""
+        Parameters
+        ----------
+        count : int
+            How many tiles it has; they are connected by edges.
+        centre : 2 float
+            The point, in lengths.
+        shape : {"nearest", "round", "rectangle"}
+            With "nearest" the next tile is the one nearest to the point that shares an edge with the patch.
+            The others (a rectangle is four by three) are smoother: the next tile is the one that reaches
+            least far out, tiles in notches come first, the patch has no holes, and no tile at the rim shares
+            only one edge, as far as others can take its place.
+
+        Returns
+        -------
+        Patch
+            The tiles.
+
+        Raises
+        ------
+        ValueError
+            Fewer tiles than that are connected here.
+        """
         from .growth import grown, nearest_connected
 
         if integer("count", count) < 1:
@@ -320,20 +353,54 @@ class Patch:
         return self.chosen(nearest_connected(self, count, centre))
 
     def structure_factor(self, waves: np.ndarray, radius: Optional[float] = None) -> np.ndarray:
-        """S(k) of the vertices: |sum of w exp(i k r)|^2 / sum of w^2 for wave vectors k (.., 2), per length,
-        as float64 (..). Without `radius` each w is 1, so that S(0) is V. With it the vertices count by a
-        smooth edge, w = exp(-3 (r / radius)^2) around the middle of the patch, up to `radius`, which leaves
-        no rings around the peaks. S(k) / S(0) is the intensity that is compared with a window's transform."""
+        """S(k) of the vertices: the squared absolute value of the sum of w exp(i k r), divided by the sum of
+        w squared.
+
+        Parameters
+        ----------
+        waves : float (.., 2)
+            Wave vectors k, per length.
+        radius : float, optional
+            Without it each w is 1, so that S(0) is V. With it the vertices count by a smooth edge, which
+            leaves no rings around the peaks: w = exp(-3 (r / radius)^2) around the middle of the patch, up to
+            `radius`.
+
+        Returns
+        -------
+        float64 (..)
+            S(k). S(k) / S(0) is the intensity that is compared with the transform of a window.
+
+        Raises
+        ------
+        ValueError
+            The last axis of the waves is not 2.
+        """
         from .exports import structure_factor
 
         return structure_factor(self, waves, radius)
 
     def to_networkx(self, kind: str = "tiles") -> "networkx.Graph":
-        """The tiles as a graph of networkx, or with kind="vertices" the vertices and edges. Its `pos` is the
-        place of each node, for `networkx.draw(graph, graph.pos)`. The attributes are numbers and texts, which
-        GraphML takes. A tile has kind, turn, address, and the x and y of its middle; an edge has `edges`,
-        such as "2/0" for edge 2 of the tile with the lesser number and edge 0 of the other. A vertex has x,
-        y, a0 to a3, and the number of its star, -1 at the rim. ImportError without networkx."""
+        """The tiles as a graph of networkx, or the vertices and edges.
+
+        Parameters
+        ----------
+        kind : {"tiles", "vertices"}
+            What the nodes are.
+
+        Returns
+        -------
+        Graph
+            Its `pos` is the place of each node, for networkx.draw(graph, graph.pos). All attributes are
+            numbers and texts, which GraphML takes. A tile has kind, turn, address, and the x and y of its
+            middle. An edge between tiles has `edges`, such as "2/0" for edge 2 of the tile with the lesser
+            number and edge 0 of the other. A vertex has x, y, a0 to a3, and the number of its star, -1 at the
+            rim.
+
+        Raises
+        ------
+        ImportError
+            networkx is not installed.
+        """
         from .exports import tile_graph, vertex_graph
 
         return {"tiles": tile_graph, "vertices": vertex_graph}[one_of("kind", kind, ("tiles", "vertices"))](
@@ -341,15 +408,46 @@ class Patch:
         )
 
     def adjacency_matrix(self, kind: str = "tiles") -> "scipy.sparse.csr_matrix":
-        """The symmetric matrix with a 1 for tiles that share an edge, or with kind="vertices" for the two
-        ends of each edge: float64, in scipy's rows. ImportError without scipy."""
+        """The symmetric matrix with a 1 for each pair of tiles that share an edge, or of vertices that are
+        its ends.
+
+        Parameters
+        ----------
+        kind : {"tiles", "vertices"}
+            What the rows are.
+
+        Returns
+        -------
+        csr_matrix of float64
+            In the rows of scipy.
+
+        Raises
+        ------
+        ImportError
+            scipy is not installed.
+        """
         from .exports import adjacency_matrix
 
         return adjacency_matrix(self, one_of("kind", kind, ("tiles", "vertices")))
 
     def to_frame(self, kind: str = "tiles") -> "pandas.DataFrame":
-        """A table of pandas with a row for each tile, vertex or edge, as `kind` says. ImportError without
-        pandas."""
+        """A table of pandas.
+
+        Parameters
+        ----------
+        kind : {"tiles", "vertices", "edges"}
+            What the rows are.
+
+        Returns
+        -------
+        DataFrame
+            One row for each.
+
+        Raises
+        ------
+        ImportError
+            pandas is not installed.
+        """
         from .exports import frame
 
         return frame(self, one_of("kind", kind, ("tiles", "vertices", "edges")))
@@ -370,23 +468,63 @@ class Patch:
         return geojson(self)
 
     def to_npz(self, path: Any) -> None:
-        """Writes the patch into a file of numpy, from which `from_npz` reads it: with its rule, and with all
-        that the board of board.schema.json has, under the same names."""
+        """Writes the patch into a file of numpy, from which `from_npz` reads it.
+
+        The file has the rule, and all that the board of board.schema.json has.
+
+        Parameters
+        ----------
+        path : path
+            The file.
+        """
         from .exports import write_npz
 
         write_npz(self, path)
 
     @classmethod
     def from_npz(cls, path: Any) -> "Patch":
-        """The patch that `to_npz` wrote; no engine is needed. ValueError for another file."""
+        """The patch that `to_npz` or the command `board --to npz` wrote. No engine is needed.
+
+        Parameters
+        ----------
+        path : path
+            The file.
+
+        Returns
+        -------
+        Patch
+            The patch, with its rule.
+
+        Raises
+        ------
+        ValueError
+            It is another file.
+        """
         from .exports import read_npz
 
         return read_npz(path)
 
     @classmethod
     def from_listing(cls, tiling: "Tiling", text: Union[str, bytes]) -> "Patch":
-        """The patch of a text that `draw layers=list` prints, with glue=yes or without. ValueError for
-        another text. `Tiling.verify` says whether it is right."""
+        """The patch of a list that `draw layers=list` prints, with glue=yes or without.
+
+        Parameters
+        ----------
+        tiling : Tiling
+            Whose tiles they are.
+        text : str or bytes
+            The list. `Tiling.verify` says whether it is right.
+
+        Returns
+        -------
+        Patch
+            The tiles in their order.
+
+        Raises
+        ------
+        ValueError
+            A line has another form, or a kind or turn that the rule has not.
+        """
         from .exports import patch_of_listing
 
         return patch_of_listing(tiling.rule, text)
@@ -398,11 +536,30 @@ class Patch:
         ids: bool = False,
         by: Optional[str] = None,
     ) -> str:
-        """A picture, `width` pixels wide: a polygon of the classes `tile`, kK and tT for each tile. `by` is
-        what the colours stand for: "kind", "turn", "child", or "neighbours", where no two tiles with a common
-        edge are alike. By default it is the first of the three that tells tiles apart. `colours` are texts
-        such as "#0b3954" or "red", taken by kind unless `by` says otherwise, in order and again. With `ids`
-        each tile has its number, address and neighbours."""
+        """A picture as SVG: a polygon of the classes `tile`, kK and tT for each tile.
+
+        Parameters
+        ----------
+        width : int
+            Its width in pixels.
+        colours : sequence of str, optional
+            Such as "#0b3954" or "red", in order, and again from the first where there are more classes.
+        ids : bool
+            Whether each tile has its number, address and neighbours.
+        by : {"kind", "turn", "child", "neighbours"}, optional
+            What a colour stands for. By "neighbours", no two tiles with a common edge are alike. By default
+            the kind if there are colours, and else the first of kind, turn and child that tells tiles apart.
+
+        Returns
+        -------
+        str
+            The text.
+
+        Raises
+        ------
+        TypeError
+            The colours are not texts in a sequence.
+        """
         from .picture import svg_of
 
         return svg_of(self, width, colour_texts("colours", colours), ids, by)
@@ -418,9 +575,27 @@ class Patch:
         colours: Optional[Sequence[str]] = None,
         **look: Any,
     ) -> "matplotlib.axes.Axes":
-        """Draws the tiles on axes of matplotlib, of a new figure by default, and returns the axes. `by` and
-        `colours` are as for `to_svg`; `look` is handed to matplotlib's PolyCollection, such as
-        linewidths=0.2. ImportError without matplotlib."""
+        """Draws the tiles on axes of matplotlib.
+
+        Parameters
+        ----------
+        ax : Axes, optional
+            Those of a new figure by default.
+        by, colours
+            As for `to_svg`.
+        **look
+            What PolyCollection takes, such as linewidths=0.2.
+
+        Returns
+        -------
+        Axes
+            The axes.
+
+        Raises
+        ------
+        ImportError
+            matplotlib is not installed.
+        """
         from .picture import plotted
 
         return plotted(self, ax, by, colour_texts("colours", colours), look)

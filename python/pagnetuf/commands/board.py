@@ -123,7 +123,7 @@ def in_windows(tiling: Tiling, frame: Frame, box: Box, whole: bool) -> Patch:
     try:
         return in_window(tiling, frame, box, whole)
     except TooManyTiles:
-        return gathered(list(Sheet(tiling, box.half, box.at, frame, None, whole).pieces()))
+        return gathered(list(Sheet(tiling, box.half, box.at, frame, None, whole).pieces(progress=True)))
 
 
 def first_half(tiling: Tiling, tiles: int) -> Tuple[int, int]:

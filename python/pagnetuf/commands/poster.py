@@ -224,7 +224,10 @@ def classes(patch: Patch, page: Page, options: argparse.Namespace) -> Classes:
         turns = patch.turns.astype(int) % most
         return Classes(turns, {int(turn): f"turn {turn}" for turn in np.unique(turns)})
     if by == "neighbours":
-        found = proper_colouring(patch.neighbours())[0].astype(int)
+        colouring, count = proper_colouring(patch.neighbours())
+        if count > 4:
+            tell(f"{count} colours, since no proper colouring with four was found")
+        found = colouring.astype(int)
         return Classes(found, {int(it): f"colour {it}" for it in np.unique(found)})
     if by == "ring":
         count = len(options.colours or COLOURS[:RINGS])
