@@ -159,8 +159,8 @@ class LibraryEngine(Engine):
         found = path or places.library()
         if not found:
             raise NoEngine(
-                f"there is no C library {places.LIBRARIES[0]}: the wheel of the package has it, `./tiling --build` "
-                "makes it in a checkout, and the variable TILING_LIBRARY names another"
+                f"there is no C library {places.LIBRARIES[0]}: the wheel of the package has it, `./tiling "
+                "--build` makes it in a checkout, and the variable TILING_LIBRARY names another"
             )
         self.library = library_at(found)
 

@@ -131,7 +131,7 @@ class Tiling:
                 self._hold(asked.machine_of(file.read()), name)
         else:
             raise BadWords(
-                f"{name!r} is no tiling: use {', '.join(BUILT_IN)}, the name of a file in {places.rules()}, or "
+                f"{name!r} is no tiling: use {', '.join(BUILT_IN)}, a name of {places.rules()}, or "
                 "Tiling.from_file(PATH)"
             )
 

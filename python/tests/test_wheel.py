@@ -44,13 +44,13 @@ def test_the_package_is_whole(installed):
         [
             "it/bin/python",
             "-c",
-            "import pagnetuf, pagnetuf.places as it; print(pagnetuf.__file__, it.library(), it.rules(), it.page())",
+            "import pagnetuf, pagnetuf.places as it; print(it.HERE, it.library(), it.rules(), it.page())",
         ],
         installed,
     ).split()
     inside = os.path.join("it", "lib")
     assert len(told) == 4 and all(inside in path and TOP not in path for path in told)
-    assert os.path.exists(os.path.join(os.path.dirname(told[0]), "py.typed"))
+    assert os.path.exists(os.path.join(told[0], "py.typed"))
     about = ran(["it/bin/python", "-m", "pip", "show", "-v", "pagnetuf"], installed)
     assert "pagnetuf = pagnetuf.commands" in about and "Author" in about and "Typing :: Typed" in about
 

@@ -102,9 +102,9 @@ def add_look(parser: argparse.ArgumentParser) -> None:
     """The options of the page, its colours and its lines."""
     size, tile = millimetres(2, 1, 20000), millimetres(1, 0.1, 10000)
     by = (
-        "what a colour stands for: kind (default), turn, the rarest vertex star at a tile's corners, neighbours "
-        "(no two tiles with a common edge are alike), or the ring around the centre. With --star, kind, turn, star "
-        "and ring keep the symmetry"
+        "what a colour stands for: kind (default), turn, the rarest vertex star at a tile's corners, "
+        "neighbours (no two tiles with a common edge are alike), or the ring around the centre. With --star, "
+        "kind, turn, star and ring keep the symmetry"
     )
     inks = f"colours of CSS, in the order of the layers, or a palette: {', '.join(PALETTES)}"
     lines = "the width and colour of the lines, 0 for none; default 0.3,#222222"
