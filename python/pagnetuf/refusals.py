@@ -48,7 +48,7 @@ class BadWords(Refusal, ValueError):
     def sentence(self) -> str:
         if self.fields and not self.field(0).isdigit():
             return self.field(0)
-        return "a number is out of range: at has four up to 2^20, half two from 1 to 4096, a seed is below 2^64"
+        return "a number is out of range: at: four up to 2^20, half: two from 1 to 4096, seed: below 2^64"
 
 
 class RuleTooLong(Refusal, ValueError):
