@@ -10,7 +10,7 @@ TABLE = re.compile(r"\b(?:const|static) ([A-Z][A-Z0-9_]*): (&(?:'static )?)?\[(.
 TEXT = re.compile(r'"\\\n((?:[^"\\]|\\.)*)"', re.S)
 NAMED_TEXT = re.compile(r'\bconst ([A-Z][A-Z0-9_]*): &str =\s*(?="\\\n)')
 NOTE = re.compile(r"\.note\(")
-IN_A_TEST = re.compile(r"\bassert\w*!\(|\bcheck(?:_\w+)?\(")
+IN_A_TEST = re.compile(r"\bassert\w*!?\(|\bcheck(?:_\w+)?\(")
 # What the numbers of a rule or of a polygon are made of: no cases, unless a loop walks them.
 PARTS = re.compile(r"(?:Quad|Placed|EdgeType|Kind|Point|Child|Format|u8|i64|\[i(?:8|64); 4\])(?!\w)")
 

@@ -1,5 +1,5 @@
 #!/bin/sh
-# Makes crates/README.md from crates.txt and the first sentence of each crate's root file, and compares it with the file.
+# Makes docs/made/CRATES.md from crates.txt and the first sentence of each crate's root file, and compares it with the file.
 # Ends with 1 if it differs.
 #   checks/crates.sh --write      writes the file
 . "$(dirname "$0")/needs"
@@ -8,7 +8,7 @@ exec python3 - "$top" "$@" << 'END'
 import os, re, sys, textwrap
 
 top, words = sys.argv[1], sys.argv[2:]
-page = f"{top}/crates/README.md"
+page = f"{top}/docs/made/CRATES.md"
 PARTS = (
     ("The program", "From the top down. A crate uses the contracts of crates below it, and the theorems of the theory."),
     ("The theory", "Definitions, proofs and laws, and no other code. Only `theory_walks` names types of the program."),
@@ -36,22 +36,21 @@ def part_of(crate):
 
 crates = [line.split("#")[0].split(":")[0].split()[0] for line in read(f"{top}/crates.txt").split("\n") if line.split("#")[0].strip()]
 lines = ["# The crates", ""]
-lines += textwrap.wrap("Each crate with the first sentence of its root file, which has more. [ARCHITECTURE](../docs/ARCHITECTURE.md#where-to-read-first) "
-                       "says where to read first, by question, and what each crate promises to those above. "
-                       "[CONTRIBUTING](../CONTRIBUTING.md#to-add-something) says what to change to add a command, a tiling, a layer, an order or a clause. "
-                       "This page is made by `checks/crates.sh --write` from `crates.txt` and these files.", 110)
+lines += textwrap.wrap("Each crate with the first sentence of its root file, which says what it promises to the crates above. "
+                       "[ARCHITECTURE](../ARCHITECTURE.md) has the layers and where to read first. "
+                       "`checks/crates.sh --write` makes this page from `crates.txt` and the root files.", 110)
 for number, (title, text) in enumerate(PARTS):
     lines += ["", f"## {title}", "", text, "", "| Crate | What it is |", "|---|---|"]
     chosen = [crate for crate in crates if part_of(crate) == number]
     for crate in reversed(chosen) if number == 0 else chosen:
         plain = re.sub(r" \([^()]*\)", "", comment(crate))
         first = re.match(r".*?[.](?=\s+[A-Z`]|$)", plain)[0].replace("|", "\\|")
-        lines.append(f"| [`{crate}`]({root(crate)}) | {first} |")
+        lines.append(f"| [`{crate}`](../../crates/{root(crate)}) | {first} |")
 made = "\n".join(lines) + "\n"
 if words == ["--write"]:
     with open(page, "w", encoding="utf-8") as file:
         file.write(made)
 elif not os.path.exists(page) or read(page) != made:
-    sys.exit("crates: crates/README.md isn't what checks/crates.sh --write makes")
+    sys.exit("crates: docs/made/CRATES.md isn't what checks/crates.sh --write makes")
 print(f"crates: {len(crates)} crates on the page")
 END

@@ -22,7 +22,7 @@ BY_SCRIPT = ("--help", "-h", "help", "--version", "--build")
 # commands that can be run here, by how they begin; the files that they read are there, or made by commands
 # above them
 RUNNABLE = re.compile(
-    r"(\./tiling|python3 (tools|docs/foreign)/\w+\.py|printf '[^']*' \| \./tiling"
+    r"(\./tiling|python3 (tools|docs/foreign)/\w+\.py|python3 -m pagnetuf (board|poster|atlas)|printf '[^']*' \| \./tiling"
     r"|sed '[^']*' (rules/\w+\.toml|\w+\.list) \| \./tiling)\b"
 )
 
@@ -61,13 +61,15 @@ def read(name):
 
 def documents():
     """The names of all documents."""
-    return ["README.md", "CONTRIBUTING.md", "crates/README.md", "rules/README.md"] + sorted(f"docs/{name}" for name in os.listdir(f"{TOP}/docs") if name.endswith(".md"))
+    pages = sorted(f"{folder}/{name}" for folder in ("docs", "docs/made") for name in os.listdir(f"{TOP}/{folder}") if name.endswith(".md"))
+    return ["README.md", "CONTRIBUTING.md", "CHANGELOG.md", "SECURITY.md", "crates/README.md", "rules/README.md", *pages]
 
 
 def stand_in(folder):
     """A folder to run commands in: copies of what they name, and a `tiling` that calls the program."""
     for name in ("docs", "rules", "tools"):
         shutil.copytree(os.path.join(TOP, name), os.path.join(folder, name))
+    os.symlink(os.path.join(TOP, "python"), os.path.join(folder, "python"))
     with open(os.path.join(folder, "tiling"), "w", encoding="utf-8") as file:
         words = "|".join(BY_SCRIPT)
         file.write(f'#!/bin/sh\ncase "$#:$1" in\n1:{words.replace("|", "|1:")}) exec "{TOP}/tiling" "$@" ;;\nesac\n')
@@ -75,10 +77,27 @@ def stand_in(folder):
     os.chmod(os.path.join(folder, "tiling"), 0o755)
 
 
+def python_of_package():
+    """A Python with which the package answers, with this program; None if there is none."""
+    os.environ.update(TILING_PROGRAM=PROGRAM, PYTHONPATH=os.path.join(TOP, "python"))
+    for python in (sys.executable, "/usr/bin/python3"):
+        words = [python, "-B", "-c", "import pagnetuf; pagnetuf.Tiling('p3').place('0:')"]
+        if os.path.exists(python) and subprocess.run(words, stderr=subprocess.DEVNULL).returncode == 0:
+            return python
+    return None
+
+
+PACKAGE = python_of_package()
+
+
 def shell(command, folder):
-    """What a command prints, both streams together, as lines."""
-    ran = subprocess.run(["sh", "-c", command], cwd=folder, stdin=subprocess.DEVNULL, stdout=subprocess.PIPE, stderr=subprocess.STDOUT)
-    return ran.stdout.decode("utf-8", "replace").rstrip("\n").split("\n")
+    """What a command prints, both streams together, as lines, and its status. The package tells on standard error what
+    it made, which is left out."""
+    error = subprocess.DEVNULL if "-m pagnetuf" in command else subprocess.STDOUT
+    command = command.replace("python3 -m pagnetuf", f"{PACKAGE} -B -m pagnetuf")
+    ran = subprocess.run(["sh", "-c", command], cwd=folder, stdin=subprocess.DEVNULL, stdout=subprocess.PIPE, stderr=error)
+    printed = ran.stdout.decode("utf-8", "replace").rstrip("\n").split("\n")
+    return ([f"status {ran.returncode}"] if error == subprocess.DEVNULL and ran.returncode else printed), ran.returncode
 
 
 def call(words, given=b""):
@@ -91,6 +110,9 @@ def is_runnable(name, command):
     """Whether a command is one of the program or of a script of the repository, and can be run here."""
     if not RUNNABLE.match(command):
         tally.skipped.append(f"{name}: $ {command}")
+        return False
+    if "-m pagnetuf" in command and not PACKAGE:
+        tally.skipped.append(f"{name}: $ {command} (the package has no numpy, or no engine)")
         return False
     if "python3 tools" in command and tomllib is None:
         tally.skipped.append(f"{name}: $ {command} (Python 3.11 or later)")
@@ -112,16 +134,7 @@ def commands(name, text, indent, folder):
             wanted.append(lines[i][len(indent) :])
             i += 1
         if is_runnable(name, command):
-            tally.compare("commands", f"{name}:{at}: $ {command}", shell(command, folder), wanted or [""])
-
-
-def recipes(folder):
-    """Runs each command of README's table of recipes, in its order: it prints what follows it in its cell, or writes
-    a file and prints nothing. (The package's own tests run those of the package.)"""
-    for cells in table(read("README.md"), ["You want"]):
-        command, *printed = quoted(cells[1])
-        if re.match(r"\./|python3", command) and is_runnable("README.md", command):
-            tally.compare("commands", f"README.md: {cells[0]}", shell(command, folder), printed or [""])
+            tally.compare("commands", f"{name}:{at}: $ {command}", shell(command, folder)[0], wanted or [""])
 
 
 def rows(text):
@@ -144,51 +157,18 @@ def section(text, title):
     return found[1] if found else ""
 
 
-def spread(words, cell):
-    """Words in which `..` stands for so many digits as the cell says, as in `addr=0:2/0,..` (40 times
-    `2/0`)."""
-    times = re.search(r"\((\d+) times `([^`]*)`\)", cell)
-    if not times:
-        return words
-    count, digit = int(times[1]), times[2]
-    short = re.compile(rf"((?:{re.escape(digit)},)*)\.\.")
-    return [short.sub(",".join([digit] * count), word) if "addr=" in word else word for word in words]
-
-
-def refusals(folder):
-    """The tables of `Each refusal by example`."""
-    text = section(read("docs/FORMATS.md"), "Each refusal by example")
-    for cells in rows(text):
-        typed, answers = quoted(cells[0]), quoted(cells[1])
-        if cells[1].startswith("(nothing)"):
-            answers = [""]
-        if not typed or not answers:
-            continue
-        where, wanted = f"docs/FORMATS.md: {cells[0]}", answers[0]
-        if "./tiling" in typed[0]:
-            got = "\n".join(shell(typed[0], folder))
-        else:
-            got, _ = call(spread([*typed[0].split(" "), *[word for word in typed[1:] if "=" in word]], cells[0]))
+def answers(folder):
+    """The commands of tests/commands.txt: each prints what is written below it, and ends with its status."""
+    name = "tests/commands.txt"
+    for found in re.finditer(r"^\$ (.*)\n((?:(?!\$ |#).+\n)+)", read(name), re.M):
+        command, wanted = found[1], found[2].rstrip("\n")
+        refused = re.match(r"(\d+) [A-Z]|status (\d+)", wanted)
+        status = int(refused[1] or refused[2]) if refused else 0
+        printed, ended = shell(command, folder)
+        got = "\n".join(printed) or f"status {ended}"
         shape = ".*".join(re.escape(part) for part in wanted.split(".."))
-        tally.compare("refusals by example", where, wanted if re.fullmatch(shape, got) else got, wanted)
-
-
-def refused_texts():
-    """The tables of `Refused texts`: each row is a change of one line of the rule file that is named above
-    the table."""
-    below = re.split(r"`(rules/\w+\.toml)` is changed", section(read("docs/TUTORIAL.md"), "Refused texts"))
-    for name, table in zip(below[1::2], below[2::2]):
-        base = read(name)
-        for cells in rows(table):
-            if len(cells) != 3 or "RuleRefused" not in cells[2]:
-                continue
-            old, wanted = quoted(cells[0])[0], quoted(cells[2])[0]
-            new = "\n".join(quoted(cells[1]))
-            text = base.replace(old, new, 1) + (f"\n{old}\n" if "at the end" in cells[1] else "")
-            if old not in base:
-                tally.fault("docs/TUTORIAL.md", f"{old} isn't in {name}")
-            where = f"docs/TUTORIAL.md: {cells[0]} of {name}"
-            tally.compare("refused texts", where, call(["check", "rule=-"], text.encode()), (wanted, 3))
+        told = wanted if re.fullmatch(shape, got) else got
+        tally.compare("commands of tests", f"{name}: {command}", (told, ended), (wanted, status))
 
 
 def typed_in_order():
@@ -213,34 +193,31 @@ def typed_in_order():
 
 
 def rule_files():
-    """Each refused file is refused as its first line says, each other one is accepted, as the library's table
-    says."""
+    """Each refused file is refused as its first line says, each other one is accepted, as docs/TILINGS.md and
+    tests/rules.txt say."""
     for name in sorted(os.listdir(f"{TOP}/docs/refused")):
         text = read(f"docs/refused/{name}")
         wanted = re.match(r"# Refused: (.*)", text)[1].strip()
         tally.compare("refused files", f"docs/refused/{name}", call(["check", "rule=-"], text.encode()), (wanted, 3))
-    listed = {}
-    for cells in rows(read("rules/README.md")):
-        link = re.match(r"\[(\w+)\]", cells[0])
-        if link and len(cells) >= 6:
-            listed[link[1]] = cells
+    told = dict(re.findall(r"^(\w+): (.*)$", read("tests/rules.txt"), re.M))
+    listed = rows_of_rules()
     for name in sorted(os.listdir(f"{TOP}/rules")):
         if not name.endswith(".toml"):
             continue
         text, stem = read(f"rules/{name}"), name[:-5]
-        cells = listed.pop(stem, None)
-        if cells is None:
-            tally.fault("rules/README.md", f"has no row for {name}")
+        cells, wanted = listed.pop(stem, None), told.pop(stem, None)
+        if cells is None or wanted is None:
+            tally.fault("docs/TILINGS.md, tests/rules.txt", f"one has no row for {name}")
             continue
-        wanted = f"accepted order {cells[1]} kinds {cells[3]} types {cells[4]}"
+        wanted, glue = wanted.split("; glue ")
         tally.compare("rule files", f"rules/{name}", call(["check", "rule=-"], text.encode()), (wanted, 0))
+        tally.compare("rows of rule files", f"docs/TILINGS.md: {stem}, kinds", cells[3], re.search(r"kinds (\d+)", wanted)[1])
         if tomllib:
             rule = tomllib.loads(text)
-            glue = ", ".join(str(glue) for glue in rule["glue"]) or "-"
-            tally.compare("rows of the library", f"rules/README.md: {stem}, glue", cells[5], glue)
+            tally.compare("rows of rule files", f"tests/rules.txt: {stem}, glue", glue, ", ".join(map(str, rule["glue"])) or "-")
             zeta = cmath.exp(2j * cmath.pi / rule["order"])
             factor = sum(a * zeta**i for i, a in enumerate(rule["lambda"]))
-            tally.compare("rows of the library", f"rules/README.md: {stem}, factor", abs(factor - value(cells[2], zeta)) < 1e-9, True)
+            tally.compare("rows of rule files", f"docs/TILINGS.md: {stem}, factor", abs(factor - value(cells[2], zeta)) < 1e-9, True)
         has_comments = f"rules/{'commented/' * os.path.exists(f'{TOP}/rules/commented/{name}')}{name}"
         tally.compare("rule files", f"{has_comments} names its source", "\n# Source: " in read(has_comments), True)
         if os.path.exists(f"{TOP}/rules/commented/{name}"):
@@ -248,8 +225,18 @@ def rule_files():
             tally.compare("rule files", f"rules/commented/{name}", call(["check", "rule=-"], commented.encode()), (wanted, 0))
             if tomllib and tomllib.loads(commented) != tomllib.loads(text):
                 tally.fault(f"rules/commented/{name}", f"has other numbers than rules/{name}")
-    for stem in listed:
-        tally.fault("rules/README.md", f"has a row for {stem}, which isn't there")
+    for stem in {**listed, **told}:
+        tally.fault("docs/TILINGS.md, tests/rules.txt", f"one has a row for {stem}, which isn't there")
+
+
+def rows_of_rules():
+    """The rows of docs/TILINGS.md about rule files, by their names: pictures, file, factor, kinds, periodic, N, what."""
+    found = {}
+    for cells in rows(read("docs/TILINGS.md")):
+        link = re.match(r"\[(\w+)\]\(\.\./rules/(?:commented/)?\1\.toml\)$", cells[1]) if len(cells) == 7 else None
+        if link:
+            found[link[1]] = cells
+    return found
 
 
 def times_zeta(order, point):
@@ -292,8 +279,10 @@ def turned_rules():
 def value(text, zeta=1):
     """The number that a short formula stands for, which may have ζ in it."""
     root = re.compile(r"√(\d+)")
-    names = {"φ": "((1 + 5**0.5) / 2)", "²": "**2", "ζ": "z"}
+    names = {"φ": "((1 + 5**0.5) / 2)", "δ": "(1 + 2**0.5)", "ζ": "z"}
     plain = root.sub(r"(\1**0.5)", text.replace(" ", ""))
+    plain = re.sub(r"⁻?[¹²³⁴⁵⁶⁷]", lambda power: f"**{power[0].translate(str.maketrans('⁻¹²³⁴⁵⁶⁷', '-1234567'))}", plain)
+    plain = re.sub(r"(?<=\d)(?=[φδζ(])", "*", plain)
     for name, meaning in names.items():
         plain = plain.replace(name, meaning)
     if not re.fullmatch(r"[-+*/().z\d\s]+", plain):
@@ -344,7 +333,7 @@ def links():
 def named_paths():
     """Each file or folder of the repository that a document names between backquotes is there; `*` stands for
     any name."""
-    path = re.compile(r"`((?:crates|docs|rules|tools|checks|python|include|tests)/[\w./*-]*\w[\w./*-]*)`")
+    path = re.compile(r"`((?:crates|docs|rules|tools|checks|python|include|tests|figures|packaging)/[\w./*-]*\w[\w./*-]*)`")
     made = re.compile(r"/out\b|/NAME\b")
     for name in documents():
         for target in sorted(set(path.findall(re.sub(r"^```.*?^```", "", read(name), flags=re.M | re.S)))):
@@ -353,24 +342,23 @@ def named_paths():
 
 
 def table(text, first):
-    """The rows of the table whose first cells are these, each as its cells."""
-    known = None
-    for cells in rows(text):
-        if cells[: len(first)] == first:
-            known = cells
-        elif known and len(cells) == len(known):
-            yield cells
-        else:
-            known = None
+    """The rows of the tables whose first cells are these, each as its cells."""
+    for piece in re.split(r"\n\n+", text):
+        head, *below = list(rows(piece)) or [[]]
+        yield from below if head[: len(first)] == first else []
 
 
 def stars_shown():
     """Each star of docs/TILINGS.md is round the vertex that its row names, and its window is drawn."""
-    for name, star, _, words, vertex in table(section(read("docs/TILINGS.md"), "Where to look"), ["rule", "star"]):
+    shares = {}
+    for name, star, _, share, words, vertex in table(section(read("docs/TILINGS.md"), "Where to look"), ["rule", "star"]):
+        shares[name] = shares.get(name, 0) + value(share)
         rule, words = places.Rule(TOP, PROGRAM, quoted(name)[0]), quoted(words)[0].split(" ")
         where = f"docs/TILINGS.md: {rule.name} {star}"
         tally.compare("stars shown", where, places.star_of(rule, words, vertex), (star, words[1]))
         tally.compare("stars shown", f"{where}, drawn", len(rule.listed(words, 5, 4, "yes")) > 5, True)
+    for name, total in shares.items():
+        tally.compare("stars shown", f"docs/TILINGS.md: {name}, the shares", round(total, 9), 1)
 
 
 def symmetric_places():
@@ -389,40 +377,35 @@ def symmetric_places():
 
 
 def windows_told():
-    """What docs/COORDINATES.md says of how many tiles a window has, of the largest ones, and of windows side
-    by side."""
+    """What docs/COORDINATES.md says of how many tiles a window has, and of windows side by side."""
     text = section(read("docs/COORDINATES.md"), "Windows")
     steps = {int(order): (quoted(right)[0], quoted(up)[0]) for order, right, up in table(text, ["order", "to the right", "up"])}
-    for name, tiles, whole, largest in table(text, ["rule", "tiles", "whole tiles", "largest"]):
+    files = {"chair": "chair", "p2": "penrose_p2", "p3": "penrose_p3", "ab": "ammann_beenker", "halfhex": "half_hex"}
+    for name, tiles, whole in table(text, ["rule", "tiles", "whole tiles"]):
         rule = places.Rule(TOP, PROGRAM, quoted(name)[0])
-        half = int(quoted(largest)[0].partition(",")[2])
+        half = int(rows_of_rules()[files[rule.name]][5])
         for what, glue, told in (("tiles", "no", tiles), ("whole tiles", "yes", whole)):
             if told:
                 got = int(rule.call("draw", "addr=0:", "at=0,0,0,0", f"half={half},{half}", "layers=census", f"glue={glue}")[-1].split()[1])
                 tally.compare("windows told", f"docs/COORDINATES.md: {rule.name}, {what}", abs(got / half**2 - float(told)) < 0.015, True)
-        beyond = rule.call("draw", "addr=0:", "at=0,0,0,0", f"half={half + 1},{half + 1}", "layers=census")
-        tally.compare("windows told", f"docs/COORDINATES.md: {rule.name}, the largest", beyond, ["7 TooManyTiles"])
         right, up = steps[rule.order]
         put = lambda step: lambda w, h: [int({"w": w, "h": h, "-h": -h, "2h": 2 * h}.get(a, a)) for a in step.split(",")]  # noqa: E731
         tally.compare("windows side by side", f"docs/COORDINATES.md: {rule.name}", places.side_by_side(rule, put(right), put(up)), True)
 
 
 def largest_of_files():
-    """The largest square window of each file of the library is as its table says: it is drawn, and one wider
-    isn't."""
-    for cells in rows(read("rules/README.md")):
-        link = re.match(r"\[(\w+)\]", cells[0])
-        if link and len(cells) == 9:
-            text, half = read(f"rules/{link[1]}.toml").encode(), int(cells[7])
-            words = lambda n: ["draw", "rule=-", "addr=0:", "at=0,0,0,0", f"half={n},{n}", "layers=census"]  # noqa: E731
-            got = call(words(half), text)[1], call(words(half + 1), text)[1]
-            tally.compare("largest windows", f"rules/README.md: {link[1]}", got, (0, 7))
+    """The largest square window of each rule file is as docs/TILINGS.md says: it is drawn, and one wider isn't."""
+    for name, cells in rows_of_rules().items():
+        text, half = read(f"rules/{name}.toml").encode(), int(cells[5])
+        words = lambda n: ["draw", "rule=-", "addr=0:", "at=0,0,0,0", f"half={n},{n}", "layers=census"]  # noqa: E731
+        got = call(words(half), text)[1], call(words(half + 1), text)[1]
+        tally.compare("largest windows", f"docs/TILINGS.md: {name}", got, (0, 7))
 
 
 def pentagons():
-    """Beside the three pentagons of P1 lie five, three and two pentagons, as rules/README.md says."""
+    """Beside the three pentagons of P1 lie five, three and two pentagons, as docs/TILINGS.md says."""
     found = places.pentagons_beside(places.Rule(TOP, PROGRAM, "penrose_p1"))
-    tally.compare("pentagons of P1", "rules/README.md", found, {0: {5}, 1: {3}, 2: {2}})
+    tally.compare("pentagons of P1", "docs/TILINGS.md", found, {0: {5}, 1: {3}, 2: {2}})
 
 
 def perpendicular():
@@ -442,13 +425,11 @@ def main():
         stand_in(folder)
         for name in documents():
             commands(name, read(name), "    ", folder)
-        recipes(folder)
         commands("docs/HELP.txt", read("docs/HELP.txt"), "  ", folder)
         manual = read("docs/tiling.1").replace("\\-", "-")
         manual = manual.replace("\n$ tiling", "\n    $ ./tiling").replace("| tiling", "| ./tiling")
         commands("docs/tiling.1", re.sub(r"^(?![ .])", "    ", manual, flags=re.M), "    ", folder)
-        refusals(folder)
-    refused_texts()
+        answers(folder)
     typed_in_order()
     rule_files()
     turned_rules()

@@ -7,7 +7,7 @@
 need program python:tomllib
 work=$(mktemp -d) || exit 1
 trap 'rm -rf "$work"' EXIT
-TILING=$program PYTHON=$python "$top/tools/draw_gallery.sh" "$work" || { echo "gallery: tools/draw_gallery.sh failed" >&2; exit 1; }
+TILING=$program PYTHON=$python "$top/figures/draw_gallery.sh" "$work" || { echo "gallery: figures/draw_gallery.sh failed" >&2; exit 1; }
 here=$top/docs/gallery
 there=$work/docs/gallery
 count=0

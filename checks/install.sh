@@ -72,6 +72,10 @@ try_program() {
     alike --help place
     alike place "$(printf '\377')"
     cmp -s "$program" "$prefix/lib/tiling/program" || failed 'another program is installed'
+    has script || { say 'skipped in part: no script'; return; }
+    told=$(script -qec "'$tiling' drow rule=p3" /dev/null < /dev/null)
+    case $told in *'2 BadWords 0'*'did you mean draw'*) ;; *) failed "no word of what to do at a terminal: $told" ;; esac
+    [ -z "$("$tiling" drow rule=p3 2>&1 > /dev/null | sed 1d)" ] || failed 'what to do is said where there is no terminal'
 }
 
 try_python() {
@@ -140,7 +144,7 @@ try_shells() {
 
 try_launcher() {
     sed -e "s|@PROGRAM@|$prefix/lib/tiling/program|; s|@SHARE@|$prefix/share/tiling|" \
-        -e "s|@PACKAGES@|$prefix/lib/python3/dist-packages|; s|@PYTHON@|$PYTHON|" "$top/tools/installed/launcher.sh" > "$work/launcher"
+        -e "s|@PACKAGES@|$prefix/lib/python3/dist-packages|; s|@PYTHON@|$PYTHON|" "$top/packaging/installed/launcher.sh" > "$work/launcher"
     chmod +x "$work/launcher"
     tiling=$work/launcher
     try_help
@@ -150,17 +154,17 @@ try_launcher() {
 }
 
 try_staged() {
-    DESTDIR=$work/stage "$top/tools/install.sh" --prefix /opt/tiling 2> /dev/null || failed 'with DESTDIR'
+    DESTDIR=$work/stage "$top/packaging/install.sh" --prefix /opt/tiling 2> /dev/null || failed 'with DESTDIR'
     cmp -s "$work/stage/opt/tiling/share/tiling/installed" "$prefix/share/tiling/installed" || failed 'DESTDIR has other files'
     ! grep -rl "$work/stage" "$work/stage" >&2 || failed 'a staged file names the stage'
-    DESTDIR=$work/stage "$top/tools/uninstall.sh" --prefix /opt/tiling
+    DESTDIR=$work/stage "$top/packaging/uninstall.sh" --prefix /opt/tiling
     [ -z "$(find "$work/stage/opt/tiling" -mindepth 1 2> /dev/null)" ] || failed 'uninstall.sh leaves files of a stage'
 }
 
 try_deb() {
     has dpkg-deb || { say 'skipped in part: no dpkg-deb'; return; }
     mkdir "$work/deb"
-    file=$("$top/tools/make_deb.sh" "$work/deb" 2> /dev/null) && [ -f "$file" ] || { failed 'no package'; return; }
+    file=$("$top/packaging/make_deb.sh" "$work/deb" 2> /dev/null) && [ -f "$file" ] || { failed 'no package'; return; }
     dpkg-deb --fsys-tarfile "$file" | tar -t > "$work/inside"
     for name in bin/tiling lib/tiling/program share/man/man1/tiling.1.gz lib/python3/dist-packages/pagnetuf/tiling.py \
         share/tiling/rules/sphinx.toml share/doc/tiling/copyright; do
@@ -169,7 +173,7 @@ try_deb() {
     dpkg-deb --info "$file" | grep -q '^ Package: tiling$' || failed 'the package is of another name'
 }
 
-"$top/tools/install.sh" --prefix "$prefix" 2> "$work/err" || { cat "$work/err" >&2; failed 'install.sh'; exit 1; }
+"$top/packaging/install.sh" --prefix "$prefix" 2> "$work/err" || { cat "$work/err" >&2; failed 'install.sh'; exit 1; }
 (cd "$prefix" && find . ! -type d | sed 's,^\./,,' | LC_ALL=C sort) > "$work/there"
 LC_ALL=C sort "$prefix/share/tiling/installed" | diff "$work/there" - >&2 || failed 'the list of files (>) is not what is there (<)'
 try_help
@@ -184,11 +188,11 @@ if has man; then
 fi
 try_staged
 try_deb
-"$top/tools/uninstall.sh" --prefix "$prefix"
+"$top/packaging/uninstall.sh" --prefix "$prefix"
 [ -z "$(find "$prefix" -mindepth 1 2> /dev/null)" ] || failed "uninstall.sh leaves $(find "$prefix" -mindepth 1 | head -n 3)"
 for word in 'install.sh' 'install.sh --prefix here' 'install.sh --nonsense' 'uninstall.sh' 'make_deb.sh'; do
     # shellcheck disable=SC2086
-    "$top/tools/"$word > /dev/null 2>&1
+    "$top/packaging/"$word > /dev/null 2>&1
     [ $? = 2 ] || failed "$word is not refused"
 done
 exit $fault

@@ -2,7 +2,7 @@
 # Checks the built C library. Its symbols are the functions of include/tiling.h, and a C program goes through each
 # function and each status. Hostile numbers do no harm, under sanitizers and under valgrind. Eight threads on one
 # machine get the answers of one. Running out of memory at any one call is answered by its status. The answers are the
-# command's, byte for byte. The archive that Rattle's own compiler makes passes the same trials and answers alike. Ends
+# command's, byte for byte. The examples of docs/EMBEDDING.md print what is written there, and the archive that Rattle's own compiler makes passes the same trials and answers alike. Ends
 # with 1 if one of these fails, and says which tools are missing. The library is the one that TILING_ARCHIVE names, or
 # .tiling/libtiling.a; the program is the one that TILING names, or crates/tiling/out/tiling. The archive of the other
 # compiler is the one that OTHER_ARCHIVE names, or one that is built here, in a minute, if the library is built from the
@@ -52,7 +52,21 @@ try_calls() {
     try no_memory_plain '' -Wl,--wrap=malloc,--wrap=realloc,--wrap=free
 }
 
+# Runs the examples of the document: two programs, of which the second draws each of 758 tiles, and a token's step.
+try_document() {
+    awk -v to="$work/example" '/^```c$/ { n++; on = 1; next } /^```/ { on = 0 } on { print > (to n ".c") }
+        /^```text$/ { text = 1; next } /^```/ { text = 0 } text { print > (to ".text") }' "$top/docs/EMBEDDING.md"
+    for number in 1 2; do
+        gcc -std=c11 -Wall -Wextra -Werror -O1 -I "$top/include" -o "$work/example$number" "$work/example$number.c" "$archive" \
+            && "$work/example$number" > "$work/printed$number" || failed "example $number of docs/EMBEDDING.md failed"
+    done
+    cmp -s "$work/printed1" "$work/example.text" || failed 'the first example of docs/EMBEDDING.md prints something else'
+    [ "$(grep -c '^<path .*Z' "$work/printed2")" = 758 ] || failed 'the picture of docs/EMBEDDING.md has other tiles'
+    try token_plain '' "-DEXAMPLE=\"$work/example3.c\""
+}
+
 try_calls
+try_document
 if compile hostile_sane -fsanitize=address,undefined 2> /dev/null; then
     "$work/hostile_sane" "$rounds" > /dev/null || failed 'hostile numbers do harm'
 else
@@ -83,7 +97,7 @@ build_other() {
     out=$top/crates/tiling_c/out
     mkdir "$work/other" && cp "$out/libtiling_c.a" "$work/kept.a" || return 1
     (cd "$top/crates/tiling_c" && rt lib --backend rattle) > "$work/log" 2>&1 \
-        && "$top/tools/make_library.sh" "$out/libtiling_c.a" "$work/other" >> "$work/log" 2>&1
+        && "$top/packaging/make_library.sh" "$out/libtiling_c.a" "$work/other" >> "$work/log" 2>&1
     built=$?
     mv "$work/kept.a" "$out/libtiling_c.a"
     [ $built = 0 ] || tail -n 5 "$work/log" >&2

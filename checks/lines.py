@@ -13,8 +13,19 @@ CEILINGS = {
     "proof lines above 150 columns": 0,
     "calls with more than 10 clauses": 5,
     "copies in answers": 317,
+    "lines of definitions above 110 columns": 0,
+    "clause lines said again in their crate": 892,
+    "functions with five and more parameters": 162,
 }
 CLAUSE_WIDTH, PROOF_WIDTH, MOST_CLAUSES, LEAST_COPIES, LEAST_LENGTH = 110, 150, 10, 3, 12
+MOST_PARAMETERS, LEAST_SAID = 4, 40  # a clause that is said again has more characters than that
+# names that say who speaks, and not what is said
+SPEAKERS = (
+    ("machine.now", "M"), ("t.rule", "M"), ("self.machine.now", "M"), ("(frame_in frame.now)", "frame.old"),
+    ("frame_in frame.now", "frame.old"), ("(window_in M.order window.now)", "window.now"), ("self.old", "frame.old"),
+    ("self.new", "frame.new"),
+)
+FUNCTION = re.compile(r"(?m)^ *(?:pub(?:\(\w+\))? )?(?:const )?(?:unsafe )?(?:extern \"C\" )?fn (\w+)(?:<[^(]*>)?\(([^)]*)\)")
 CLAUSE = re.compile(r"\s*(requires|ensures|invariant|decreases)\b.*\{")
 CALL = re.compile(r"\s*(?:pub(?:\(\w+\))? )?(?:const )?(?:unsafe )?(?:extern \"C\" )?fn (\w+)")
 
@@ -83,14 +94,54 @@ def copies(lines):
             yield len(found) - LEAST_COPIES + 1, found[0], f"{len(found)} times {step[:60]}"
 
 
+def wide_definitions(lines):
+    for number, line in enumerate(lines, 1):
+        if len(line) > CLAUSE_WIDTH and not re.match(r"(pub )?use ", line):
+            yield len(line), number, f"{len(line)} columns"
+
+
+def crowded_functions(lines):
+    text = "\n".join(lines)
+    for found in FUNCTION.finditer(text):
+        count = sum(bool(it.strip()) for it in re.sub(r"<[^<>]*>|\[[^\]]*\]", "", found[2]).split(","))
+        if count > MOST_PARAMETERS:
+            yield count, text.count("\n", 0, found.start()) + 1, f"{found[1]} has {count} parameters"
+
+
+def said(clause):
+    """What a clause says, without its label and without who says it."""
+    text = re.sub(r"^(requires|ensures)( \w+)?", r"\1", " ".join(" ".join(line for _, line in clause).split()))
+    for speaker, name in SPEAKERS:
+        text = text.replace(speaker, name)
+    return text
+
+
+def said_again(top, crates):
+    """The clauses of the product that an earlier clause of their crate says, too."""
+    for crate in crates:
+        known = set()
+        for file in [] if crate.startswith("trial_") else sorted(glob.glob(f"{top}/crates/{crate}/src/**/*.rt", recursive=True)):
+            for (name, _), clause in clauses(read(file)):
+                text = said(clause)
+                if len(text) > LEAST_SAID and text in known and text.startswith(("requires", "ensures")):
+                    yield len(clause), f"{os.path.relpath(file, top)}:{clause[0][0]}", f"{name}: {text[:70]}"
+                known.add(text)
+
+
 def found(top, crates):
     """What each count finds: its size, its file with the line, and what it is."""
     names = lambda pattern: [it for crate in crates for it in sorted(glob.glob(f"{top}/crates/{crate}/{pattern}", recursive=True))]  # noqa: E731
     kinds = [(names("src/*.rt"), wide_clauses), (names("proofs/**/*.antt"), wide_proofs), (names("src/*.rt"), crowded_calls)]
     kinds.append((names("proofs/**/Answers.antt"), copies))
-    for title, (files, look) in zip(CEILINGS, kinds):
+    kinds.append((names("specs/**/*.antt"), wide_definitions))
+    product = [it for it in names("src/**/*.rt") if not it.startswith(f"{top}/crates/trial_")]
+    kinds.append((product, crowded_functions))
+    titles = [title for title in CEILINGS if title != "clause lines said again in their crate"]
+    for title, (files, look) in zip(titles, kinds):
         rows = [(size, f"{os.path.relpath(file, top)}:{line}", what) for file in files for size, line, what in look(read(file))]
         yield title, sum(size for size, _, _ in rows) if look is copies else len(rows), sorted(rows, reverse=True)
+    rows = sorted(said_again(top, crates), reverse=True)
+    yield "clause lines said again in their crate", sum(size for size, _, _ in rows), rows
 
 
 def main():

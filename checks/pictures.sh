@@ -6,7 +6,7 @@
 need python:tomllib
 drawn=$(mktemp -d) || exit 1
 trap 'rm -rf "$drawn"' EXIT
-PYTHON=$python "$top/tools/draw_all.sh" "$drawn" || { echo "pictures: tools/draw_all.sh failed" >&2; exit 1; }
+PYTHON=$python "$top/figures/draw_all.sh" "$drawn" || { echo "pictures: figures/draw_all.sh failed" >&2; exit 1; }
 "$python" - "$top" "$drawn" << 'END'
 import os, re, sys
 import xml.etree.ElementTree as tree

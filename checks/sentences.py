@@ -11,8 +11,8 @@ ALLOWED = {}
 # how many words a document may have, so that it reads in three minutes: a command, a formula or a quotation is one
 WORDS = {"README.md": 750}
 # how many lines a document may have
-LENGTHS = {"README.md": 110, "docs/PROMISES.md": 200, "docs/DECISIONS.md": 150, "docs/COST.md": 120}
-# what docs/STYLE.md has a plainer word for, and is never meant otherwise
+LENGTHS = {"README.md": 110}
+# what has a plainer word, and is never meant otherwise; CONTRIBUTING has those that we meet most
 AVOIDED = [
     r"but for", r"but that", r"nothing but", r"be it", r"want of memory", r"memory is wanting", r"is (wanting|lacking)",
     r"(says?|said) (its|their) words", r"(is|are|was|were) told", r"tells?", r"(isn't|aren't|wasn't) there", r"hasn't (an?|the|its|this|no)\b",
@@ -149,8 +149,7 @@ def faults(top, name):
         for sentence in sentences(plain(piece)):
             if length(sentence) > LONGEST:
                 long.append((length(sentence), line, f"{length(sentence)} words: {sentence}"))
-        # (the page on style quotes them)
-        avoided += [(line, found[0].strip()) for found in WORD.finditer(plain(piece)) if name != "docs/STYLE.md"]
+        avoided += [(line, found[0].strip()) for found in WORD.finditer(plain(piece))]
     return [(line, what) for _, line, what in sorted(long, reverse=True)], list(wide_lines(name, text, prose)), avoided
 
 

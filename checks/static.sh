@@ -6,7 +6,7 @@ object=$top/crates/tiling/out/tiling.o
 need "$object"
 work=$(mktemp -d) || exit 1
 trap 'rm -rf "$work"' EXIT
-"$top/tools/link_static.sh" "$object" "$work/program" \
+"$top/packaging/link_static.sh" "$object" "$work/program" \
     || skip 'C compiler, C library as an archive, or kit'
 fault=0
 for check in documents hostile streams; do

@@ -1,4 +1,5 @@
-"""How the scripts of tools/ answer on the command line: see tools.sh. Called with the top and the program."""
+"""How the scripts that users and developers call answer on the command line: see tools.sh. Called with the top and the
+program."""
 import os
 import pty
 import shutil
@@ -8,6 +9,7 @@ import tempfile
 
 sys.dont_write_bytecode = True
 TOP, PROGRAM = os.path.abspath(sys.argv[1]), os.path.abspath(sys.argv[2])
+FOLDERS = ("tools", "figures", "packaging", "tests/hostile", "tests/memory", "tests/cost")
 MODULES = {"command_line.py", "hostile_answers.py", "hostile_inputs.py", "older_toml.py", "rule_file.py", "toml_document.py"}
 # a call of each script that prints much or for long; those with PROGRAM are left out where there is none
 CALLS = {
@@ -34,9 +36,19 @@ CALLS = {
     "make_deb.sh": None,
     "make_library.sh": None,
     "make_usage.py": "man docs/usage.toml",
+    "make_wheel.sh": None,
+    "cures.sh": None,
     "paint.py": "--colour turn < DRAWN",
     "refuse_memory.py": None,
     "uninstall.sh": None,
+}
+# scripts of packaging/ that make the page and the module: they have their own checks
+LEFT_OUT = {"make_page.py", "make_wasm.sh"}
+PLACES = {
+    name: os.path.join(place, name)
+    for place in FOLDERS
+    for name in os.listdir(os.path.join(TOP, place))
+    if name.endswith((".py", ".sh")) and name not in LEFT_OUT
 }
 wrong, tried = [], 0
 
@@ -44,7 +56,7 @@ wrong, tried = [], 0
 def stand_in(folder):
     """A copy of what the scripts read and write, with a list of tiles and a picture for those that read
     one."""
-    for name in ("checks", "docs", "rules", "tools"):
+    for name in ("checks", "docs", "rules", *FOLDERS):
         shutil.copytree(os.path.join(TOP, name), os.path.join(folder, name))
     shutil.copy(os.path.join(TOP, "check"), os.path.join(folder, "check"))
     with open(os.path.join(folder, "LINES"), "w", encoding="utf-8") as file:
@@ -63,7 +75,7 @@ def state(folder):
 
 
 def command(name, words):
-    return ["sh" if name.endswith(".sh") else sys.executable, os.path.join("tools", name), *words]
+    return ["sh" if name.endswith(".sh") else sys.executable, PLACES[name], *words]
 
 
 def call(folder, name, words, source=subprocess.DEVNULL, sink=subprocess.PIPE):
@@ -128,8 +140,7 @@ def main():
     with tempfile.TemporaryDirectory() as folder:
         stand_in(folder)
         before = state(folder)
-        names = sorted(name for name in os.listdir(os.path.join(folder, "tools")) if name.endswith((".py", ".sh")))
-        for name in names:
+        for name in sorted(PLACES):
             helped(folder, name)
             closed(folder, name, ["--help"])
             if name not in MODULES and name not in CALLS:

@@ -1,6 +1,6 @@
 #!/bin/sh
 # Tests that each picture of rules/ and docs/ is valid by the document type of SVG 1.1, and so is what the commands of
-# docs/FORMATS.md make that put a style sheet after the first line, if there is a program. It needs xmllint and the
+# docs/PICTURES.md make that put a style sheet after the first line, if there is a program. It needs xmllint and the
 # W3C's document types (in Debian libxml2-utils and w3c-sgml-lib), and is skipped without them. Ends with 1 if one is
 # not valid. The program is the one that TILING names, or crates/tiling/out/tiling.
 . "$(dirname "$0")/needs"
@@ -12,8 +12,8 @@ work=$(mktemp -d) || exit 1
 trap 'rm -rf "$work"' EXIT
 if [ -x "$program" ]; then
     cp -r "$top/tools" "$top/rules" "$work" && ln -s "$program" "$work/tiling" || exit 1
-    sed -n "s/^    \\\$ \\(\\.\\/tiling draw .*| sed '1a <style.*> rhombs.svg\\)\$/\\1/p" "$top/docs/FORMATS.md" > "$work/command"
-    [ -s "$work/command" ] || { echo "valid: docs/FORMATS.md has no such command" >&2; exit 1; }
+    sed -n "s/^    \\\$ \\(\\.\\/tiling draw .*| sed '1a <style.*> rhombs.svg\\)\$/\\1/p" "$top/docs/PICTURES.md" > "$work/command"
+    [ -s "$work/command" ] || { echo "valid: docs/PICTURES.md has no such command" >&2; exit 1; }
     (cd "$work" && sh ./command) || exit 1
 fi
 count=0

@@ -69,7 +69,7 @@ def help_text(table):
     lines = [filled(f"tiling: {table['does']}", "", ""), "", *calls_shown(table), "", *meanings_shown(table), "", *examples_shown(table), ""]
     lines += ["A refusal is one line on standard error, CODE NAME FIELDS, and CODE is the exit status:"]
     lines += [re.sub(r" +$", "", codes_shown(table), flags=re.M), "  (125: the script could not run the program)", ""]
-    lines += [filled("docs/FORMATS.md has each refusal by example, docs/TUTORIAL.md a rule file step by step, docs/LISTINGS.md a listing "
+    lines += [filled("docs/FORMATS.md has each refusal with its fix, docs/TUTORIAL.md a rule file step by step, docs/LISTINGS.md a list "
                      "from another program; docs/tiling.1 is a man page.", "", "")]
     return "\n".join(lines) + "\n"
 
@@ -159,8 +159,8 @@ def manual(table):
     for command in table["command"]:
         lines += [".TP", f".B {command['name']}", *paragraphs(command["text"], ".IP")]
     lines += [".SH ARGUMENTS", *arguments(table), *script(table), *statuses(table), *examples(table), ".SH SEE ALSO"]
-    lines += ["docs/FORMATS.md (every text and refusal by example), docs/TUTORIAL.md (a rule file step by step),"]
-    lines += ["docs/LISTINGS.md (a listing from another program),", "docs/COORDINATES.md (x and y), docs/PROMISES.md (what is proved)."]
+    lines += ["docs/FORMATS.md (every text and refusal), docs/TUTORIAL.md (a rule file step by step),"]
+    lines += ["docs/LISTINGS.md (a list from another program),", "docs/COORDINATES.md (x and y), docs/PROMISES.md (what is proved)."]
     return "\n".join(lines) + "\n"
 
 

@@ -28,7 +28,8 @@ fn add(joined: &mut Joined, list: &Vec<u8>) -> Result<(), NoMemory>
 /// Joins four sorts of lists, one after another. They are the mates, the types into which each type is cut,
 /// the types of the edges of each kind, and the kinds of the children of each kind.
 pub(crate) fn join(alloc: Global, tables: &Tables) -> Result<Joined, NoMemory>
-    ensures { IfOk result (λ joined. AreBlocksKept (lists_of tables.now) joined.items.items joined.ends.items) }
+    ensures { IfOk result (λ joined. AreBlocksKept (lists_of tables.now) joined.items.items
+        joined.ends.items) }
 {
     let mut joined = Joined {
         items: Vec::with_capacity(alloc, 64)?,

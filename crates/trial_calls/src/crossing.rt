@@ -158,5 +158,5 @@ fn first_wrong(alloc: Global) -> Wrong {
 
 #[test]
 fn across_and_back(rt: HostRuntime) {
-    assert_eq!(rt; first_wrong(rt.alloc()).name, "");
+    first_wrong(rt.alloc()).assert_none(&rt);
 }

@@ -67,8 +67,9 @@ fn drawn(alloc: Global, rule: &str, machine: &Machine) -> Counts {
     counts
 }
 
-/// Notes the first rule of which not each of 50 windows is alike, or which have few tiles.
-fn note_drawn(alloc: Global, wrong: &mut Wrong) {
+/// The first rule of which not each of 50 windows is alike, or which have few tiles.
+fn first_drawn(alloc: Global) -> Wrong {
+    let mut wrong = Wrong::default();
     for (name, rule) in &RULES {
         let counts = match machine_of(alloc, *name) {
             Ok(machine) => drawn(alloc, rule, &machine),
@@ -81,6 +82,7 @@ fn note_drawn(alloc: Global, wrong: &mut Wrong) {
         } = counts;
         wrong.note(rule, tiles, windows == 50 && unlike == 0 && tiles >= 200);
     }
+    wrong
 }
 
 /// Draws windows around the vertices, the midpoints of edges and points inside the tiles of a supertile of
@@ -118,25 +120,23 @@ fn touching_drawn(alloc: Global, rule: &str, name: Name) -> Result<Counts, NoMem
     touching(alloc, rule, &machine, &base)
 }
 
-/// Notes the first rule of which a window that touches what it doesn't meet is unlike, or which has few.
-fn note_touching(alloc: Global, wrong: &mut Wrong) {
+/// The first rule of which a window that touches what it doesn't meet is unlike, or which has few.
+fn first_touching(alloc: Global) -> Wrong {
+    let mut wrong = Wrong::default();
     for (name, rule) in &RULES {
         let counts = touching_drawn(alloc, rule, *name).unwrap_or(Counts::default());
         let is_right = counts.windows >= 10 && counts.unlike == 0;
         wrong.note(rule, counts.tiles, is_right);
     }
+    wrong
 }
 
 #[test]
 fn drawn_windows(rt: HostRuntime) {
-    let mut wrong = Wrong::default();
-    note_drawn(rt.alloc(), &mut wrong);
-    assert_eq!(rt; wrong.name, "", "{} tiles", wrong.row);
+    first_drawn(rt.alloc()).assert_none(&rt);
 }
 
 #[test]
 fn touching_windows(rt: HostRuntime) {
-    let mut wrong = Wrong::default();
-    note_touching(rt.alloc(), &mut wrong);
-    assert_eq!(rt; wrong.name, "", "{} tiles", wrong.row);
+    first_touching(rt.alloc()).assert_none(&rt);
 }

@@ -136,10 +136,15 @@ fn note_files(alloc: Global, wrong: &mut Wrong) {
     }
 }
 
+/// The first file that comes out otherwise.
+fn first_wrong(alloc: Global) -> Wrong {
+    let mut wrong = NONE;
+    note_files(alloc, &mut wrong);
+    note_editions(alloc, &mut wrong);
+    wrong
+}
+
 #[test]
 fn files(rt: HostRuntime) {
-    let mut wrong = NONE;
-    note_files(rt.alloc(), &mut wrong);
-    note_editions(rt.alloc(), &mut wrong);
-    assert_eq!(rt; wrong.name, "", "row {}", wrong.row);
+    first_wrong(rt.alloc()).assert_none(&rt);
 }

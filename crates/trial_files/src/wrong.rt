@@ -1,4 +1,5 @@
 //! The first row of all tables that comes out otherwise.
+use std::process::Abort;
 
 /// The first row that isn't right: the name of its table, or the row's own text, and its number, counted from
 /// 0. Without such a row the name is empty.
@@ -17,5 +18,10 @@ impl Wrong {
         if !is_right && self.name.is_empty() {
             *self = Wrong { name, row };
         }
+    }
+
+    /// Fails the test, and names the row, if one is wrong.
+    pub fn assert_none(&self, rt: &impl Abort) {
+        assert_eq!(rt; self.name, "", "row {}", self.row);
     }
 }

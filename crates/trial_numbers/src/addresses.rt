@@ -221,12 +221,16 @@ fn is_read_so(
     Ok(depth_read(uses, text.as_bytes()) == *wanted)
 }
 
-/// Notes the first text or address that comes out otherwise.
-fn note_rows(alloc: Global, wrong: &mut Wrong, uses: &Uses) {
+/// Notes the first text that is read otherwise.
+fn note_read(alloc: Global, wrong: &mut Wrong, uses: &Uses) {
     for (row, (pieces, wanted)) in READ.iter().enumerate() {
         let is_right = is_read_so(alloc, uses, pieces, wanted);
         wrong.note("read", row, is_right.unwrap_or(false));
     }
+}
+
+/// Notes the first address or fault that is written otherwise.
+fn note_written(alloc: Global, wrong: &mut Wrong) {
     for (row, written) in WRITTEN.iter().enumerate() {
         wrong.note("written", row, is_written(alloc, written).unwrap_or(false));
     }
@@ -234,6 +238,10 @@ fn note_rows(alloc: Global, wrong: &mut Wrong, uses: &Uses) {
         let is_right = is_printed(alloc, fault, text);
         wrong.note("printed", row, is_right.unwrap_or(false));
     }
+}
+
+/// Notes what comes out otherwise of an address of depth 2, and of one that is full.
+fn note_single(wrong: &mut Wrong, uses: &Uses) {
     let addr = address(0, &[(1, 0), (2, 0)]);
     wrong.note("is_read", 0, is_read(uses, &addr));
     wrong.note("is_read_back", 0, is_read_back(uses, &addr));
@@ -241,12 +249,24 @@ fn note_rows(alloc: Global, wrong: &mut Wrong, uses: &Uses) {
     wrong.note("one_more", 0, one_more() == (64, Err(Full), 64));
 }
 
-#[test]
-fn addresses(rt: HostRuntime) {
+/// Notes the first text or address that comes out otherwise.
+fn note_rows(alloc: Global, wrong: &mut Wrong, uses: &Uses) {
+    note_read(alloc, wrong, uses);
+    note_written(alloc, wrong);
+    note_single(wrong, uses);
+}
+
+/// The first text or address that comes out otherwise.
+fn first_wrong(alloc: Global) -> Wrong {
     let mut wrong = NONE;
-    match one_kind(rt.alloc()) {
-        Ok(uses) => note_rows(rt.alloc(), &mut wrong, &uses),
+    match one_kind(alloc) {
+        Ok(uses) => note_rows(alloc, &mut wrong, &uses),
         Err(_) => wrong.note("one_kind", 0, false),
     }
-    assert_eq!(rt; wrong.name, "", "row {}", wrong.row);
+    wrong
+}
+
+#[test]
+fn addresses(rt: HostRuntime) {
+    first_wrong(rt.alloc()).assert_none(&rt);
 }

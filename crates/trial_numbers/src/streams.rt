@@ -272,24 +272,38 @@ fn note_rows(alloc: Global, wrong: &mut Wrong) {
 /// Notes the first piece that streams in memory write or give otherwise. The sink fails at calls 2 and 9, and
 /// the source at calls 1, 3 and 6.
 fn note_streams(alloc: Global, wrong: &mut Wrong) -> Result<(), NoMemory> {
-    let fails = [6, 1, 3, 0, 3].to_vec(alloc)?;
-    note_rooms(
-        wrong,
-        &mut MemSource::new(b"tiles".to_vec(alloc)?, 2, fails),
-    );
-    note_sources(wrong, &mut SteadySource::new(b"tiles".to_vec(alloc)?));
-    note_pieces(
-        wrong,
-        &mut MemSink::new(alloc, 5, 2, [2, 9].to_vec(alloc)?)?,
-    );
+    note_rooms(wrong, &mut five_fails(alloc)?);
+    note_sources(wrong, &mut steady_tiles(alloc)?);
+    note_pieces(wrong, &mut two_fails(alloc)?);
     Ok(())
+}
+
+/// A source of `tiles`, two bytes a call, of whose calls five fail.
+fn five_fails(alloc: Global) -> Result<MemSource, NoMemory> {
+    let fails = [6, 1, 3, 0, 3].to_vec(alloc)?;
+    Ok(MemSource::new(b"tiles".to_vec(alloc)?, 2, fails))
+}
+
+/// A source of `tiles` that never fails.
+fn steady_tiles(alloc: Global) -> Result<SteadySource, NoMemory> {
+    Ok(SteadySource::new(b"tiles".to_vec(alloc)?))
+}
+
+/// A sink with room for five bytes, two a call, of whose calls two fail.
+fn two_fails(alloc: Global) -> Result<MemSink, NoMemory> {
+    MemSink::new(alloc, 5, 2, [2, 9].to_vec(alloc)?)
+}
+
+/// The first row that comes out otherwise.
+fn first_wrong(alloc: Global) -> Wrong {
+    let mut wrong = NONE;
+    note_rows(alloc, &mut wrong);
+    let is_made = note_streams(alloc, &mut wrong).is_ok();
+    wrong.note("streams", 0, is_made);
+    wrong
 }
 
 #[test]
 fn streams(rt: HostRuntime) {
-    let mut wrong = NONE;
-    note_rows(rt.alloc(), &mut wrong);
-    let is_made = note_streams(rt.alloc(), &mut wrong).is_ok();
-    wrong.note("streams", 0, is_made);
-    assert_eq!(rt; wrong.name, "", "row {}", wrong.row);
+    first_wrong(rt.alloc()).assert_none(&rt);
 }

@@ -5,7 +5,7 @@ ghost use Rattle.theory_walks.specs.Frames.{IsFrameOf};
 ghost use Rattle.rule_model.specs.Tiling.{tiling_of};
 
 use crate::given::{deep, spelled, tile_text};
-use crate::wrong::Wrong;
+use crate::wrong::{Wrong, assert_of};
 use builtin_rules::name::Name;
 use cyclo_points::order::Order;
 use cyclo_points::point::Point;
@@ -207,8 +207,7 @@ fn contains_each_point_at_the_least_depth(rt: HostRuntime) -> Result<(), Fail> {
     for name in NAMES {
         let machine = machine_of(rt.alloc(), name)?;
         let counts = counted(rt.alloc(), &machine)?;
-        assert_eq!(rt; counts.differ, 0, "{name:?}");
-        assert!(rt; counts.right >= 30, "{name:?} {counts:?}");
+        assert_of(&rt, name, counts.differ == 0 && counts.right >= 30);
     }
     Ok(())
 }

@@ -1,4 +1,5 @@
 //! Windows that are drawn, against a list of all tiles of the frame.
+use crate::wrong::assert_of;
 use std::test::Fail;
 use trial_plain_tiles::built_in::{NAMES, machine_of};
 use trial_plain_tiles::counts::Counts;
@@ -16,8 +17,7 @@ fn drawn_windows(rt: HostRuntime) -> Result<(), Fail> {
     for name in NAMES {
         let machine = machine_of(rt.alloc(), name)?;
         let (counts, tiles) = windows(rt.alloc(), &machine, 100, MOST_TILES)?;
-        assert_eq!(rt; counts, wanted, "{name:?}");
-        assert!(rt; tiles >= 400, "{name:?} {tiles}");
+        assert_of(&rt, name, counts == wanted && tiles >= 400);
     }
     Ok(())
 }

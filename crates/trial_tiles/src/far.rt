@@ -2,6 +2,7 @@
 ghost use Rattle.std.specs.Prelude.{◌≡◌, ◌<◌};
 
 use crate::placed::{across, followed, glue_motion};
+use crate::wrong::assert_of;
 use builtin_rules::name::Name;
 use cyclo_points::motion::Motion;
 use edge_tables::steps::Steps;
@@ -102,7 +103,8 @@ fn counted<L: Ledger>(alloc: Global, name: Name, blank: Blank) -> Result<(u32, u
 #[test]
 fn far_up(rt: HostRuntime) -> Result<(), Fail> {
     for name in NAMES {
-        assert!(rt; counted::<Brand>(rt.alloc(), name, Blank::new(1))? == (1000, 0));
+        let counts = counted::<Brand>(rt.alloc(), name, Blank::new(1))?;
+        assert_of(&rt, name, counts == (1000, 0));
     }
     Ok(())
 }

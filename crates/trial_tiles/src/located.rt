@@ -1,5 +1,6 @@
 //! The tile located at a point, compared with a list of all tiles of supertiles of depth up to 4. The points
 //! are the vertices of each tile, and the midpoints of edges and points inside that are points of the ring.
+use crate::wrong::assert_of;
 use builtin_rules::name::Name;
 use std::test::Fail;
 use trial_plain_tiles::built_in::machine_of;
@@ -25,7 +26,7 @@ fn locates_each_tile_of_supertiles(rt: HostRuntime) -> Result<(), Fail> {
             right: points,
             differ: 0,
         };
-        assert_eq!(rt; counts, wanted, "{name:?}");
+        assert_of(&rt, name, counts == wanted);
     }
     Ok(())
 }

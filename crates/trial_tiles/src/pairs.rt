@@ -4,7 +4,7 @@ ghost use Rattle.std.specs.Prelude.{◌≡◌, ◌<◌};
 ghost use Rattle.rule_model.specs.Tiling.{tiling_of, contacts};
 
 use crate::placed::across;
-use crate::wrong::Wrong;
+use crate::wrong::{Wrong, assert_of};
 use builtin_rules::name::Name;
 use edge_tables::steps::Steps;
 use pair_machine::edge_pair::EdgePair;
@@ -182,7 +182,7 @@ fn far_up(rt: HostRuntime) -> Result<(), Fail> {
     };
     for name in NAMES {
         let counts = counted::<Brand>(rt.alloc(), name, Blank::new(1))?;
-        assert_eq!(rt; counts, wanted, "{name:?}");
+        assert_of(&rt, name, counts == wanted);
     }
     Ok(())
 }

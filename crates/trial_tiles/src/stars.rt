@@ -3,7 +3,7 @@
 ghost use Rattle.std.specs.Prelude.{◌≡◌, ◌<◌};
 
 use crate::given::{deep, spelled, tile_text};
-use crate::wrong::Wrong;
+use crate::wrong::{Wrong, assert_of};
 use builtin_rules::name::Name;
 use edge_tables::steps::Steps;
 use star_walk::star::Star;
@@ -140,7 +140,7 @@ fn whole_supertiles(rt: HostRuntime) -> Result<(), Fail> {
             right: *number,
             differ: 0,
         };
-        assert_eq!(rt; counts, wanted, "{name:?}");
+        assert_of(&rt, *name, counts == wanted);
     }
     Ok(())
 }

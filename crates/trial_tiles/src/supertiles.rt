@@ -3,6 +3,7 @@ ghost use Rattle.std.specs.Prelude.{◌≡◌, ◌<◌};
 
 use crate::placed::{across, followed, glue_motion, times};
 use crate::sides::{Side, sides};
+use crate::wrong::assert_of;
 use builtin_rules::name::Name;
 use cyclo_points::motion::Motion;
 use cyclo_points::point::Point;
@@ -191,7 +192,8 @@ fn counted<L: Ledger>(alloc: Global, name: Name, blank: Blank) -> Result<(u64, u
 #[test]
 fn whole_supertiles(rt: HostRuntime) -> Result<(), Fail> {
     for (name, edges) in &NAMES {
-        assert!(rt; counted::<Brand>(rt.alloc(), *name, Blank::new(1))? == (0, *edges));
+        let counts = counted::<Brand>(rt.alloc(), *name, Blank::new(1))?;
+        assert_of(&rt, *name, counts == (0, *edges));
     }
     Ok(())
 }

@@ -1,6 +1,7 @@
 //! Windows around vertices, midpoints of edges and points on them. Their sides run through vertices, along
 //! edges and through corners of tiles that they only touch.
 use crate::drawn_windows::MOST_TILES;
+use crate::wrong::assert_of;
 use cyclo_points::point::Point;
 use plane_geom::window::Window;
 use std::alloc::Global;
@@ -64,8 +65,7 @@ fn windows_that_touch(rt: HostRuntime) -> Result<(), Fail> {
         let mut draws = Draws { state: 3 };
         let base = draws.address(&machine, 2, true).unwrap_or(Address::new(0));
         let counts = counted(rt.alloc(), &machine, &base)?;
-        assert_eq!(rt; counts.differ, 0, "{name:?}");
-        assert!(rt; counts.right >= 5, "{name:?} {counts:?}");
+        assert_of(&rt, name, counts.differ == 0 && counts.right >= 5);
     }
     Ok(())
 }

@@ -1,6 +1,7 @@
 //! Windows answered in two ways, by a search from the centre and from the top down: the same tiles, or the
 //! same fault.
 use crate::given::deep;
+use crate::wrong::assert_of;
 use builtin_rules::name::Name;
 use cyclo_points::point::Point;
 use plane_geom::window::Window;
@@ -59,7 +60,7 @@ fn drawn(rt: HostRuntime) -> Result<(), Fail> {
     for name in NAMES {
         let machine = machine_of(rt.alloc(), name)?;
         let counts = alike_windows(rt.alloc(), &machine, 60, 70);
-        assert_eq!(rt; counts, wanted, "{name:?}");
+        assert_of(&rt, name, counts == wanted);
     }
     Ok(())
 }

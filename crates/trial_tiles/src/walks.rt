@@ -1,6 +1,7 @@
 //! Walks through frames that grow, there and back: many short ones, and a long one of each rule.
 ghost use Rattle.std.specs.Prelude.{◌≡◌, ◌<◌};
 
+use crate::wrong::assert_of;
 use builtin_rules::name::Name;
 use edge_tables::steps::Steps;
 use std::alloc::Global;
@@ -34,8 +35,7 @@ fn walks_lead_back(rt: HostRuntime) -> Result<(), Fail> {
     };
     for name in NAMES {
         let (counts, depth) = counted::<Brand>(rt.alloc(), name, Blank::new(1))?;
-        assert_eq!(rt; counts, wanted, "{name:?}");
-        assert!(rt; depth.is_some_and(|depth| depth >= 5), "{name:?} {depth:?}");
+        assert_of(&rt, name, counts == wanted && depth >= Some(5));
     }
     Ok(())
 }

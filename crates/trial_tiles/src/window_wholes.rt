@@ -10,6 +10,7 @@ ghost use Rattle.theory_windows.specs.Limits.{most_tiles};
 ghost use Rattle.window_cover.specs.InOrder as covered;
 
 use crate::whole_tiles::glued;
+use crate::wrong::assert_of;
 use builtin_rules::name::Name;
 use cyclo_points::arithmetic::refused;
 use cyclo_points::motion::Motion;
@@ -155,11 +156,11 @@ fn alike(rt: HostRuntime) -> Result<(), Fail> {
             let window = draws.sized_window(machine.checked().order(), 40, 60);
             if let Some(base) = draws.address(&machine, depth, false) {
                 let count = count_if_alike(rt.alloc(), &machine, &base, start, &window);
-                assert!(rt; count.is_some(), "{name:?} {base} {start} {window:?}");
+                assert_of(&rt, name, count.is_some());
                 all = all.saturating_add(count.unwrap_or(0) as u64);
             }
         }
-        assert!(rt; all > 1000, "{name:?} {all}");
+        assert_of(&rt, name, all > 1000);
     }
     Ok(())
 }

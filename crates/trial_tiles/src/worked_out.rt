@@ -37,6 +37,5 @@ fn first_wrong(alloc: Global) -> Wrong {
 
 #[test]
 fn worked_out(rt: HostRuntime) {
-    let wrong = first_wrong(rt.alloc());
-    assert_eq!(rt; wrong.name, "", "row {}", wrong.row);
+    first_wrong(rt.alloc()).assert_none(&rt);
 }

@@ -1,4 +1,6 @@
 //! The first row of all tables that comes out otherwise.
+use builtin_rules::name::Name;
+use std::process::Abort;
 
 /// The first row that isn't right: the name of its table, or the row's own text, and its number, counted from
 /// 0. Without such a row the name is empty.
@@ -18,4 +20,14 @@ impl Wrong {
             *self = Wrong { name, row };
         }
     }
+
+    /// Fails the test, and names the row, if one is wrong.
+    pub fn assert_none(&self, rt: &impl Abort) {
+        assert_eq!(rt; self.name, "", "row {}", self.row);
+    }
+}
+
+/// Fails the test, and names the rule, unless this holds of it.
+pub fn assert_of(rt: &impl Abort, name: Name, is_so: bool) {
+    assert!(rt; is_so, "{name:?}");
 }
