@@ -61,7 +61,8 @@ def read(name):
 
 def documents():
     """The names of all documents."""
-    return ["README.md", "CONTRIBUTING.md", "crates/README.md", "rules/README.md"] + sorted(f"docs/{name}" for name in os.listdir(f"{TOP}/docs") if name.endswith(".md"))
+    pages = sorted(f"{folder}/{name}" for folder in ("docs", "docs/made") for name in os.listdir(f"{TOP}/{folder}") if name.endswith(".md"))
+    return ["README.md", "CONTRIBUTING.md", "CHANGELOG.md", "SECURITY.md", "crates/README.md", "rules/README.md", *pages]
 
 
 def stand_in(folder):
@@ -332,7 +333,7 @@ def links():
 def named_paths():
     """Each file or folder of the repository that a document names between backquotes is there; `*` stands for
     any name."""
-    path = re.compile(r"`((?:crates|docs|rules|tools|checks|python|include|tests)/[\w./*-]*\w[\w./*-]*)`")
+    path = re.compile(r"`((?:crates|docs|rules|tools|checks|python|include|tests|figures|packaging)/[\w./*-]*\w[\w./*-]*)`")
     made = re.compile(r"/out\b|/NAME\b")
     for name in documents():
         for target in sorted(set(path.findall(re.sub(r"^```.*?^```", "", read(name), flags=re.M | re.S)))):

@@ -72,6 +72,10 @@ try_program() {
     alike --help place
     alike place "$(printf '\377')"
     cmp -s "$program" "$prefix/lib/tiling/program" || failed 'another program is installed'
+    has script || { say 'skipped in part: no script'; return; }
+    told=$(script -qec "'$tiling' drow rule=p3" /dev/null < /dev/null)
+    case $told in *'2 BadWords 0'*'did you mean draw'*) ;; *) failed "no word of what to do at a terminal: $told" ;; esac
+    [ -z "$("$tiling" drow rule=p3 2>&1 > /dev/null | sed 1d)" ] || failed 'what to do is said where there is no terminal'
 }
 
 try_python() {

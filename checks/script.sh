@@ -12,7 +12,7 @@ here=$work/repository
 mkdir -p "$here/docs" "$here/crates/low/src" "$here/crates/low/specs" "$here/crates/low/proofs" "$here/crates/tiling/src"
 mkdir -p "$work/bin" "$work/without"
 mkdir "$here/tools"
-cp "$top/tiling" "$here/tiling" && cp "$top/docs/HELP.txt" "$here/docs/" && cp "$top/tools/words.awk" "$top/tools/follow_build.py" "$top/tools/command_line.py" "$here/tools/" || exit 1
+cp "$top/tiling" "$here/tiling" && cp "$top/docs/HELP.txt" "$here/docs/" && cp "$top/tools/words.awk" "$top/tools/cures.sh" "$top/tools/follow_build.py" "$top/tools/command_line.py" "$here/tools/" || exit 1
 printf '%s\n' 'low:' 'tiling: low' > "$here/crates.txt"
 echo one > "$here/crates/low/src/lib.rt"
 echo two > "$here/crates/tiling/src/main.rt"

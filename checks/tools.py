@@ -36,6 +36,8 @@ CALLS = {
     "make_deb.sh": None,
     "make_library.sh": None,
     "make_usage.py": "man docs/usage.toml",
+    "make_wheel.sh": None,
+    "cures.sh": None,
     "paint.py": "--colour turn < DRAWN",
     "refuse_memory.py": None,
     "uninstall.sh": None,

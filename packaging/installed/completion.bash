@@ -31,8 +31,8 @@ _tiling_keys() {
 _tiling_options() {
     local frame='--at --seed --addr --out --help'
     case $1 in
-    board) echo "--tiles --half --halves --to $frame" ;;
-    poster) echo "--size --tile --by --colours --line --joined --cut --star --halves --to $frame" ;;
+    board) echo "--tiles --half --shape --halves --by --to $frame" ;;
+    poster) echo "--size --tile --by --colours --line --joined --cut --star --jobs --halves --to $frame" ;;
     explore) echo '--at --seed --addr --print --help' ;;
     atlas) echo "$frame" ;;
     esac
@@ -53,7 +53,8 @@ _tiling() {
         compopt +o nospace -o filenames 2> /dev/null
         case $before in
         --to) COMPREPLY=($(compgen -W "$([ "$command" = board ] && echo json csv svg npz || echo svg dxf)" -- "$word")) ;;
-        --by) COMPREPLY=($(compgen -W 'kind turn star' -- "$word")) ;;
+        --by) COMPREPLY=($(compgen -W "kind turn neighbours $([ "$command" = board ] && echo child || echo star ring)" -- "$word")) ;;
+        --shape) COMPREPLY=($(compgen -W 'round rectangle nearest' -- "$word")) ;;
         *)
             case $word in
             -*) COMPREPLY=($(compgen -W "$(_tiling_options "$command")" -- "$word")) ;;

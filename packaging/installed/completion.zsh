@@ -9,8 +9,8 @@ _tiling() {
     values=(rule 'chair p2 p3 ab halfhex -' glue 'yes no' layers 'svg list census svg,list list,census svg,list,census'
         at '0,0,0,0' half '20,12' addr '0: 1: 2: 3:')
     local frame='--at --seed --addr --out --help'
-    options=(board "--tiles --half --halves --to $frame"
-        poster "--size --tile --by --colours --line --joined --cut --star --halves --to $frame"
+    options=(board "--tiles --half --shape --halves --by --to $frame"
+        poster "--size --tile --by --colours --line --joined --cut --star --jobs --halves --to $frame"
         explore '--at --seed --addr --print --help' atlas $frame)
     local -a names=(
         'place:where a tile lies' 'neighbour:the tile across an edge' 'walk:the tiles along a path of edges'
@@ -27,7 +27,8 @@ _tiling() {
     if ((${+options[$command]})); then
         case $words[CURRENT-1] in
         --to) [[ $command == board ]] && compadd json csv svg npz || compadd svg dxf ;;
-        --by) compadd kind turn star ;;
+        --by) compadd kind turn neighbours; [[ $command == board ]] && compadd child || compadd star ring ;;
+        --shape) compadd round rectangle nearest ;;
         *)
             if [[ $PREFIX == -* ]]; then compadd -- ${=options[$command]}; else
                 ((CURRENT > 3)) || compadd p2 p3 ab chair halfhex

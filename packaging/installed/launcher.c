@@ -10,9 +10,11 @@
  * 125 says that nothing was run. */
 #include <errno.h>
 #include <fcntl.h>
+#include <signal.h>
 #include <stdio.h>
 #include <stdlib.h>
 #include <string.h>
+#include <sys/wait.h>
 #include <unistd.h>
 
 static int cannot(const char *what) {
@@ -50,6 +52,37 @@ static int run_python(int count, char **words) {
     return cannot(PYTHON ", which this command needs");
 }
 
+static int run_program(char **words) {
+    execv(PROGRAM, words);
+    return cannot(PROGRAM);
+}
+
+/* Says what to do about a refusal, as ./tiling does. */
+static int say_cure(int status, int count, char **words) {
+    char number[4], **all = calloc((size_t)count + 3, sizeof *all);
+    if (!all) return status;
+    snprintf(number, sizeof number, "%d", status);
+    all[0] = "sh", all[1] = SHARE "/tools/cures.sh", all[2] = number;
+    memcpy(all + 3, words + 1, (size_t)(count - 1) * sizeof *all);
+    if (!fork()) execv("/bin/sh", all), _exit(0);
+    wait(NULL);
+    return status;
+}
+
+/* Runs the program for a person at a terminal, and says what to do about a refusal. */
+static int run_for_a_person(int count, char **words) {
+    int status;
+    pid_t child = fork();
+    if (child < 0) return run_program(words);
+    if (!child) _exit(run_program(words));
+    signal(SIGINT, SIG_IGN), signal(SIGQUIT, SIG_IGN);
+    if (waitpid(child, &status, 0) < 0) return cannot(PROGRAM);
+    signal(SIGINT, SIG_DFL), signal(SIGQUIT, SIG_DFL);
+    if (WIFSIGNALED(status)) return raise(WTERMSIG(status)), 128 + WTERMSIG(status);
+    status = WEXITSTATUS(status);
+    return status > 1 && status < 18 ? say_cure(status, count, words) : status;
+}
+
 static int is_one_of(const char *word, const char *const *words) {
     while (*words && strcmp(word, *words)) words++;
     return *words != NULL;
@@ -62,6 +95,5 @@ int main(int count, char **words) {
     if (count == 2 && !strcmp(words[1], "--version")) return show(SHARE "/VERSION");
     if (is_one_of(words[1], commands)) return run_python(count, words);
     words[0] = "tiling"; /* (the program's own name is a word that has to be UTF-8) */
-    execv(PROGRAM, words);
-    return cannot(PROGRAM);
+    return isatty(2) ? run_for_a_person(count, words) : run_program(words);
 }

@@ -17,5 +17,9 @@ if [ $# -eq 1 ]; then
 fi
 # (called by a short name, since the program's own name is a word of its, which has to be UTF-8)
 program="@PROGRAM@"
-cd "${program%/*}" && exec "./${program##*/}" "$@"
-exit 125
+cd "${program%/*}" || exit 125
+[ -t 2 ] || { exec "./${program##*/}" "$@"; exit 125; }
+"./${program##*/}" "$@"
+status=$?
+case $status in [2-9] | 1[0-7]) sh "@SHARE@/tools/cures.sh" $status "$@" ;; esac
+exit $status

@@ -3,17 +3,17 @@
 import sys
 
 try:
-    import numpy  # noqa: F401
+    __import__("numpy")
 except ModuleNotFoundError:
     NEEDED = f"pagnetuf needs numpy, which {sys.executable} doesn't have (Debian's package is python3-numpy)"
     if sys.argv[0] == "-m":  # a command: its user needs no traceback
         sys.exit(NEEDED)
     raise ModuleNotFoundError(NEEDED, name="numpy") from None
 
-from .engine import ADDRESS, TILE, Box, Engine, Frame, Machine
+from .engine import ADDRESS, BUILT_IN, TILE, Box, Engine, Frame, Machine
 from .geometry import Ring
 from .library import LibraryEngine, usual_engine
-from .patch import Patch, WholePatch
+from .patch import Patch, Tile, WholePatch
 from .program import ProgramEngine, find_program
 from .refusals import (
     BadAddress,
@@ -36,7 +36,59 @@ from .refusals import (
     WriteFault,
 )
 from .rule import Rule
-from .tiling import Across, Placed, StarTile, Tiling, Window, call
+from .sheet import Sheet
+from .strokes import strokes
+from .symmetry import Place, symmetric_place
+from .tiling import Across, Pairing, Placed, StarTile, Tiling, WalkTile, Window, call, rule_file
 
 __version__ = "0.1.0"
-__all__ = [name for name in dir() if not name.startswith("_") and name not in ("numpy", "sys")]
+__all__ = [
+    "__version__",
+    "Across",
+    "ADDRESS",
+    "BadAddress",
+    "BadListing",
+    "BadScript",
+    "BadWords",
+    "Box",
+    "BUILT_IN",
+    "call",
+    "CoordLimit",
+    "DepthLimit",
+    "Engine",
+    "find_program",
+    "Frame",
+    "LibraryEngine",
+    "Machine",
+    "NoEdge",
+    "NoEngine",
+    "NoMemory",
+    "NoVertex",
+    "Outside",
+    "Pairing",
+    "Patch",
+    "Place",
+    "Placed",
+    "ProgramEngine",
+    "ReadFault",
+    "Refusal",
+    "Ring",
+    "Rule",
+    "rule_file",
+    "RuleRefused",
+    "RuleTooLong",
+    "Sheet",
+    "StarTile",
+    "StarTooBig",
+    "strokes",
+    "symmetric_place",
+    "TILE",
+    "Tile",
+    "Tiling",
+    "TooManyTiles",
+    "usual_engine",
+    "WalkTile",
+    "WholePatch",
+    "Window",
+    "WriteFault",
+]

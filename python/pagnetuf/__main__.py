@@ -1,4 +1,4 @@
-"""The commands `python3 -m pagnetuf board|poster|explore|atlas ..`; each answers --help."""
+"""The commands `pagnetuf board|poster|explore|atlas ..`; each answers --help."""
 from .commands.command_line import run
 
 run()

@@ -10,6 +10,7 @@ from typing import NamedTuple, Optional, Sequence, Tuple, Union
 
 import numpy as np
 
+from .arguments import Point
 from .rule import Rule
 
 TILE = np.dtype(
@@ -24,6 +25,8 @@ TILE = np.dtype(
 )
 ADDRESS = np.dtype([("kind", "u1"), ("depth", "u1"), ("digits", "u1", (64, 2))])
 MOST_TILES = 200_000
+BUILT_IN = ("chair", "p2", "p3", "ab", "halfhex")
+Motion = Tuple[int, int, Point]  # kind, turn, shift
 # addresses as texts, or as an ADDRESS array
 Addresses = Union[Sequence[str], np.ndarray]
 
@@ -44,13 +47,13 @@ def raw(records: np.ndarray) -> np.ndarray:
     return records.view(np.dtype((np.void, records.dtype.itemsize)))
 
 
-def is_records(addresses: Addresses) -> bool:
-    """True for an ADDRESS array, and False for texts. ValueError for an array of another kind."""
+def records_of(addresses: Addresses) -> Optional[np.ndarray]:
+    """An ADDRESS array, or None for texts. ValueError for an array of another kind."""
     if not isinstance(addresses, np.ndarray) or addresses.dtype.kind in "UO":
-        return False
+        return None
     if addresses.dtype != ADDRESS or addresses.ndim != 1:
         raise ValueError(f"addresses are texts or an ADDRESS array (n,), and not {addresses.dtype}")
-    return True
+    return addresses
 
 
 def is_room(out: np.ndarray, count: int) -> bool:
@@ -69,7 +72,7 @@ class Frame(NamedTuple):
 class Box(NamedTuple):
     """A window: the points whose X and Y differ from those of `at` by less than `half`."""
 
-    at: Tuple[int, int, int, int] = (0, 0, 0, 0)
+    at: Point = (0, 0, 0, 0)
     half: Tuple[int, int] = (20, 12)
 
 
@@ -86,12 +89,23 @@ class Machine(ABC):
     """One rule, prepared once. Its answers are the engine's; a refusal is raised by its name. It can be
     pickled."""
 
+    engine: "Engine"
     name: str  # what stands for it in the words of the command: a name, or "-"
-    rule: Rule
+    file: Optional[bytes] = None  # of a rule that has no name
+
+    @property
+    @abstractmethod
+    def rule(self) -> Rule:
+        """The numbers of the rule."""
+
+    @property
+    def key(self) -> Tuple[str, Optional[bytes]]:
+        """What is the same for two machines of one rule, over whichever engine."""
+        return self.name, self.file
 
     @abstractmethod
-    def place(self, address: str) -> np.ndarray:
-        """Where a tile lies in its supertile: one TILE. BadAddress, CoordLimit."""
+    def place(self, address: str) -> Motion:
+        """Where a tile lies in its supertile. BadAddress, CoordLimit."""
 
     @abstractmethod
     def neighbour(self, address: str, edge: int) -> Tuple[str, int]:
@@ -103,16 +117,23 @@ class Machine(ABC):
 
     @abstractmethod
     def neighbour_all(
-        self, addresses: Addresses, edges: Sequence[int], out: Optional[np.ndarray] = None
+        self, addresses: Addresses, edges: np.ndarray, out: Optional[np.ndarray] = None
     ) -> Tuple[Addresses, np.ndarray]:
-        """`neighbour` of each: the addresses, of the form in which they were given, and uint8 (n, 2) of the
-        edges that lead back and the statuses. With `out`, an ADDRESS array (n,), the addresses are put there;
-        it may be `addresses` itself."""
+        """`neighbour` of each, with an integer array of edges: the addresses, of the form in which they were
+        given, and uint8 (n, 2) of the edges that lead back and the statuses. With `out`, an ADDRESS array
+        (n,), the addresses are put there; it may be `addresses` itself."""
 
     @abstractmethod
     def cover(self, frame: Frame, box: Box, glue: bool = False, addresses: bool = True) -> Found:
         """Exactly the tiles that meet a window, by shift, turn and kind, or with `glue` the halves of its
         whole tiles; with their addresses or without."""
+
+    def meeting(self, tiles: np.ndarray, boxes: Sequence[Box]) -> np.ndarray:
+        """Which tiles of an array meet one of some windows: bool (n,)."""
+        from .meeting import meeting
+        from .patch import Patch
+
+        return meeting(Patch(self.rule, tiles, None), *boxes)
 
     @abstractmethod
     def listing(self, frame: Frame, box: Box, glue: bool = False) -> bytes:

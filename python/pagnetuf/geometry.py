@@ -7,9 +7,11 @@ sin(360°/order) are numbers p + q s of integers, where s is 0, sqrt 2 or the go
 order. They, products and signs are exact; only `xy` and `perpendicular` end in floats. docs/COORDINATES.md
 has the same in words."""
 import math
-from typing import Tuple
+from typing import Any, Tuple
 
 import numpy as np
+
+from .arguments import frozen
 
 ORDERS = (4, 6, 8, 10)
 # zeta^2 (orders 4 and 6) or zeta^4 (8 and 10) in the lower powers
@@ -32,6 +34,10 @@ _SQUARE = {4: (0, 0), 6: (0, 0), 8: (2, 0), 10: (1, 1)}
 GOLDEN = (1 + math.sqrt(5)) / 2
 _SURD = {4: 0.0, 6: 0.0, 8: math.sqrt(2), 10: GOLDEN}
 SIGN_LIMIT = 1 << 29  # of p and q of a number p + q s, for an exact sign in 64 bits
+FACTOR_LIMIT = (
+    1 << 30
+)  # of p and q of each of two numbers, for an exact product of them, and the difference of two
+POINT_LIMIT = 1 << 60  # of a coefficient, for exact coordinates
 
 
 class Ring:
@@ -63,15 +69,15 @@ class Ring:
             rows[0][3] = rows[0][2] @ step
         while len(rows) < self.order:
             rows.append(rows[-1] @ step)
-        return np.array(rows)
+        return frozen(np.array(rows))
 
-    def turn(self, points: np.ndarray, turns) -> np.ndarray:
+    def turn(self, points: np.ndarray, turns: Any) -> np.ndarray:
         """The points times zeta^turn. `points` is (.., 4); `turns` is one integer, or an array of the shape
         of `points` without its last axis."""
         matrix = self.powers[np.asarray(turns) % self.order]
         return np.einsum("...i,...ij->...j", np.asarray(points, np.int64), matrix)
 
-    def times(self, points: np.ndarray, factor) -> np.ndarray:
+    def times(self, points: np.ndarray, factor: Any) -> np.ndarray:
         """The products of points (.., 4) with one number of the ring, given by four coefficients."""
         matrix = np.tensordot(np.asarray(factor, np.int64), self.powers[[0, 1, 2, 3]], 1)
         return np.asarray(points, np.int64) @ matrix
@@ -79,14 +85,15 @@ class Ring:
     def scaled(self, points: np.ndarray) -> Tuple[np.ndarray, np.ndarray]:
         """X and Y of points (.., 4), exactly: two int64 arrays (.., 2) of pairs p, q for p + q surd."""
         points = np.asarray(points, np.int64)
+        _within(POINT_LIMIT, points)
         return points @ self._x, points @ self._y
 
     def signs(self, numbers: np.ndarray) -> np.ndarray:
         """The signs -1, 0, 1 of numbers p + q surd, given as pairs (.., 2), exactly. OverflowError where one
         is above 2^29."""
-        p, q = np.asarray(numbers, np.int64)[..., 0], np.asarray(numbers, np.int64)[..., 1]
-        if max(np.abs(p).max(initial=0), np.abs(q).max(initial=0)) > SIGN_LIMIT:
-            raise OverflowError("a number is too large for an exact sign in 64 bits")
+        numbers = np.asarray(numbers, np.int64)
+        _within(SIGN_LIMIT, numbers)
+        p, q = numbers[..., 0], numbers[..., 1]
         if self.order in (4, 6):
             return np.sign(p)
         if self.order == 10:  # 2 (p + q phi) = (2 p + q) + q sqrt 5
@@ -98,7 +105,9 @@ class Ring:
         return np.where(alike, np.sign(np.sign(p) + np.sign(q)), np.sign(p) * larger)
 
     def product(self, a: np.ndarray, b: np.ndarray) -> np.ndarray:
-        """The products of numbers p + q surd, as pairs (.., 2)."""
+        """The products of numbers p + q surd, as pairs (.., 2), exactly. OverflowError where one is above
+        2^30."""
+        _within(FACTOR_LIMIT, a, b)
         u, v = _SQUARE[self.order]
         both = a[..., 1] * b[..., 1]
         return np.stack(
@@ -106,8 +115,8 @@ class Ring:
         )
 
     def crossings(self, a: np.ndarray, b: np.ndarray) -> np.ndarray:
-        """X(a) Y(b) - X(b) Y(a) for points (.., 4), as pairs (.., 2): positive where b lies to the left of
-        a."""
+        """X(a) Y(b) - X(b) Y(a) for points (.., 4), as pairs (.., 2), exactly: positive where b lies to the
+        left of a. OverflowError where a coordinate is above 2^30."""
         (ax, ay), (bx, by) = self.scaled(a), self.scaled(b)
         return self.product(ax, by) - self.product(bx, ay)
 
@@ -139,6 +148,13 @@ class Ring:
             return np.array([round(x), 0, round(y), 0], np.int64)
         up = round(y / self.sine)
         return np.array([round(x - up * math.cos(2 * math.pi / self.order)), up, 0, 0], np.int64)
+
+
+def _within(limit: int, *arrays: np.ndarray) -> None:
+    """OverflowError where a number of an array is above a limit in absolute value."""
+    for array in arrays:
+        if array.size and not -limit <= int(array.min()) <= int(array.max()) <= limit:
+            raise OverflowError("a number is too large to be exact in 64 bits")
 
 
 def unique_points(points: np.ndarray) -> Tuple[np.ndarray, np.ndarray]:

@@ -1,20 +1,20 @@
-"""The engine as the C library, called in the process by ctypes: tens of times faster a call than the program,
-and the tiles of a window come as arrays.
+"""The engine: the C library, called in the process by ctypes. Tiles of a window come as arrays.
 
-What the library's header, include/tiling.h, has no call for is asked of the program: listings, and the line
-of a refusal. The library is the one that TILING_LIBRARY names, or one next to the package's files, or
-.tiling/libtiling.so.0 of a checkout, or the installed one."""
+The library is the one that TILING_LIBRARY names, or one next to the package's files, or that of .tiling of a
+checkout, or the installed one. include/tiling.h is its header. Where a call refuses, the command's own line
+is asked for by tiling_call, so that the exception has its fields."""
 import ctypes
-import os
-from functools import lru_cache
-from typing import Callable, Optional, Sequence, Tuple
+import struct
+import threading
+from functools import cached_property, lru_cache
+from typing import Any, Callable, Dict, Optional, Sequence, Tuple, TypeVar
 
 import numpy as np
 
 from . import places
-from .built_in import BUILT_IN
 from .engine import (
     ADDRESS,
+    BUILT_IN,
     MOST_TILES,
     TILE,
     Addresses,
@@ -23,51 +23,59 @@ from .engine import (
     Found,
     Frame,
     Machine,
+    Motion,
     copied,
-    is_records,
     raw,
+    records_of,
     taken,
 )
-from .glue import glued
-from .program import ProgramEngine, address_texts, read_alike
-from .refusals import BadListing, BadWords, NoEngine, NoMemory, Refusal, refusal_of
-from .rule import Rule, document_of
+from .program import CommandMachine
+from .refusals import BadListing, BadWords, NoEngine, NoMemory, refusal_of
+from .rule import Rule
+from .texts import address_texts, read_alike
 
+Answer = TypeVar("Answer")
 ABI = 1
+LATEST_ABI = 2
 FRAME = np.dtype([("seed", "<u8"), ("base", ADDRESS), ("rest", "u1", 6)])
 WINDOW = np.dtype([("at", "<i8", 4), ("w", "<u2"), ("h", "<u2"), ("rest", "u1", 4)])
-OK, BAD_ADDRESS = 0, 4
+OK, BAD_ADDRESS, REFUSED = 0, 4, 255
 NO_NUMBERS = np.zeros(0, np.int64)
 NOTHING = Found(np.zeros(0, TILE), np.zeros(0, ADDRESS), np.zeros(0, np.int64))
-BY_STATUS = {kind.status: kind for kind in reversed(Refusal.__subclasses__())}
-STATUS, SIZE, POINTER = ctypes.c_uint8, ctypes.c_size_t, ctypes.c_void_p
+STATUS, SIZE, POINTER, BYTE = ctypes.c_uint8, ctypes.c_size_t, ctypes.c_void_p, ctypes.c_uint8
 # the result and the parameters of each function that is called
 CALLS = {
     "abi": (ctypes.c_uint32,),
     "open": (STATUS, ctypes.c_char_p, SIZE, POINTER),
+    "open_file": (STATUS, ctypes.c_char_p, SIZE, POINTER, POINTER, SIZE, POINTER),
+    "order": (BYTE, POINTER),
+    "kinds": (BYTE, POINTER),
+    "prototile": (STATUS, POINTER, BYTE, POINTER),
+    "glue_edge": (STATUS, POINTER, BYTE, POINTER),
     "read_address": (STATUS, POINTER, ctypes.c_char_p, SIZE, POINTER),
-    "write_address": (STATUS, POINTER, ctypes.c_char_p, SIZE, POINTER),
+    "write_address": (STATUS, POINTER, POINTER, SIZE, POINTER),
     "place": (STATUS, POINTER, POINTER, POINTER),
-    "neighbour": (STATUS, POINTER, POINTER, ctypes.c_uint8, POINTER, POINTER),
-    "cover": (STATUS, POINTER, POINTER, POINTER, POINTER, SIZE, POINTER, SIZE, POINTER),
-}
-# functions that a library may lack: then the calls on arrays ask for each item by itself, and the rest is
-# asked of the program
-MORE_CALLS = {
+    "neighbour": (STATUS, POINTER, POINTER, BYTE, POINTER, POINTER),
     "place_all": (STATUS, POINTER, POINTER, SIZE, POINTER, SIZE),
     "neighbour_all": (STATUS, POINTER, POINTER, SIZE, POINTER, SIZE, POINTER, SIZE),
     "pair": (STATUS, POINTER, POINTER, POINTER, POINTER),
-    "star": (STATUS, POINTER, POINTER, ctypes.c_uint8, POINTER),
-    "open_file": (STATUS, ctypes.c_char_p, SIZE, POINTER, POINTER, SIZE, POINTER),
+    "cover": (STATUS, POINTER, POINTER, POINTER, POINTER, SIZE, POINTER, SIZE, POINTER),
     "glue": (STATUS, POINTER, POINTER, POINTER, POINTER, SIZE, POINTER),
-    "walk": (STATUS, POINTER, POINTER, ctypes.c_uint8, POINTER, SIZE, POINTER, SIZE, POINTER, SIZE),
+    "walk": (STATUS, POINTER, POINTER, BYTE, POINTER, SIZE, POINTER, SIZE, POINTER, SIZE),
+    "star": (STATUS, POINTER, POINTER, BYTE, POINTER),
     "verify": (STATUS, *(POINTER,) * 3, *(POINTER, SIZE) * 2, POINTER, POINTER),
     "call": (STATUS, *(ctypes.c_char_p, SIZE) * 2, *(POINTER, SIZE, POINTER) * 2),
+}
+# those that the interface 2 has more
+MORE_CALLS = {
+    "rule": (None, POINTER, POINTER),
+    "meets_all": (STATUS, POINTER, POINTER, SIZE, POINTER, POINTER, SIZE),
 }
 CROSSING = np.dtype([("status", "u1"), ("back", "u1"), ("part", "u1")])
 RELATION = np.dtype([("relation", "u1"), ("backs", "u1", 12)])
 STAR = np.dtype([("tiles", TILE, 64), ("addresses", ADDRESS, 64), ("count", "u1"), ("rest", "u1", 7)])
 WHOLE = np.dtype([("tiles", TILE, 2), ("addresses", ADDRESS, 2), ("parts", "u1"), ("rest", "u1", 3)])
+ONE_TILE = struct.Struct("<4q8B")
 BESIDE, NO_BACK = 3, 255
 # the faults of arrays, by their numbers
 FAULTS, MISSING = ("", "NoTile", "NotOfFrame", "Double", "Missing", "WrongPlace", "Stray"), 4
@@ -76,53 +84,92 @@ LONGEST_TEXT, LONGEST_PATH, LONGEST_LINE = 515, 1000, 128
 TEXT_ROOM, NOTE_ROOM = 1 << 16, 1 << 10
 
 
-class OneAddress(ctypes.Structure):
-    """One ADDRESS, for calls on single tiles, where an array would cost more than the call."""
-
-    _fields_ = [("kind", ctypes.c_uint8), ("depth", ctypes.c_uint8), ("digits", ctypes.c_uint8 * 128)]
-
-
 class Library:
     """The functions of the library at a path. NoEngine if it can't be loaded, or has another interface."""
+
+    abi: Callable[..., int]
+    open: Callable[..., int]
+    open_file: Callable[..., int]
+    order: Callable[..., int]
+    kinds: Callable[..., int]
+    prototile: Callable[..., int]
+    glue_edge: Callable[..., int]
+    read_address: Callable[..., int]
+    write_address: Callable[..., int]
+    place: Callable[..., int]
+    neighbour: Callable[..., int]
+    place_all: Callable[..., int]
+    neighbour_all: Callable[..., int]
+    pair: Callable[..., int]
+    cover: Callable[..., int]
+    glue: Callable[..., int]
+    walk: Callable[..., int]
+    star: Callable[..., int]
+    verify: Callable[..., int]
+    call: Callable[..., int]
+    rule: Optional[Callable[..., None]] = None
+    meets_all: Optional[Callable[..., int]] = None
 
     def __init__(self, path: str):
         self.path = path
         try:
             loaded = ctypes.CDLL(path)
-            for name, (result, *parameters) in {**CALLS, **MORE_CALLS}.items():
-                call = getattr(loaded, "tiling_" + name, None)
-                if call is None and name in CALLS:
-                    raise AttributeError(f"it has no tiling_{name}")
-                if call is not None:
-                    call.restype, call.argtypes = result, parameters
-                setattr(self, name, call)
+            self._take(loaded, CALLS)
+            if not ABI <= self.abi() <= LATEST_ABI:
+                raise NoEngine(f"{path} has the interface {self.abi()}, and this package needs {LATEST_ABI}")
+            if self.abi() == LATEST_ABI:
+                self._take(loaded, MORE_CALLS)
         except (OSError, AttributeError) as trouble:
             raise NoEngine(f"{path} can't be loaded: {trouble}") from trouble
-        if self.abi() != ABI:
-            raise NoEngine(f"{path} has the interface {self.abi()}, and this package needs {ABI}")
+
+    def _take(self, loaded: ctypes.CDLL, calls: Dict[str, Tuple[Any, ...]]) -> None:
+        """Takes these functions of a library."""
+        for name, (result, *parameters) in calls.items():
+            call = getattr(loaded, "tiling_" + name)
+            call.restype, call.argtypes = result, parameters
+            setattr(self, name, call)
+
+
+@lru_cache(16)
+def library_at(path: str) -> Library:
+    """The library at a path, loaded once."""
+    return Library(path)
+
+
+class Scratch(threading.local):
+    """What a thread hands to calls on single tiles, made once: an address, a tile, a text, two numbers, and
+    pointers to them."""
+
+    def __init__(self) -> None:
+        self.address, self.tile = (ctypes.c_uint8 * ADDRESS.itemsize)(), (ctypes.c_uint8 * TILE.itemsize)()
+        self.text, self.size = ctypes.create_string_buffer(LONGEST_TEXT), ctypes.c_size_t()
+        self.back, self.part = ctypes.c_uint8(), ctypes.c_uint8()
+        self.to_address, self.to_tile = ctypes.addressof(self.address), ctypes.addressof(self.tile)
+        self.to_text, self.to_size = ctypes.addressof(self.text), ctypes.addressof(self.size)
+        self.to_back, self.to_part = ctypes.addressof(self.back), ctypes.addressof(self.part)
+
+
+SCRATCH = Scratch()
 
 
 class LibraryEngine(Engine):
-    """Machines over the library at a path, or over the one that is found; the program answers the rest."""
+    """Machines over the library at a path, or over the one that is found. NoEngine without one."""
 
-    def __init__(self, path: Optional[str] = None, program: Optional[str] = None):
+    def __init__(self, path: Optional[str] = None):
         found = path or places.library()
         if not found:
-            raise NoEngine("no C library: name it by TILING_LIBRARY, or build it by ./tiling --build")
-        self.library, self.program = Library(found), program
+            raise NoEngine(
+                f"there is no C library {places.LIBRARIES[0]}: the wheel of the package has it, `./tiling "
+                "--build` makes it in a checkout, and the variable TILING_LIBRARY names another"
+            )
+        self.library = library_at(found)
 
-    def __reduce__(self):
-        return LibraryEngine, (self.library.path, self.program)
-
-    def asking(self) -> ProgramEngine:
-        """The engine over the program. NoEngine where there is none."""
-        return ProgramEngine(self.program)
+    def __reduce__(self) -> tuple:
+        return LibraryEngine, (self.library.path,)
 
     def call(self, words: Sequence[str], given: bytes = b"") -> bytes:
-        if not self.library.call:
-            return self.asking().call(words, given)
         # (no argument of a call has a newline; a question mark is refused at the same place)
-        text = "\n".join(word.replace("\n", "?") for word in words).encode()
+        text = "\n".join(word.replace("\n", "?") for word in words).encode("utf-8", "surrogateescape")
         size = ctypes.c_size_t(TEXT_ROOM)
         while True:
             room, length = size.value, ctypes.c_size_t()
@@ -138,131 +185,111 @@ class LibraryEngine(Engine):
                 return out.raw[: size.value]
 
     def machine(self, name: str) -> "LibraryMachine":
-        if name not in BUILT_IN:
-            raise BadWords(1)
-        handle, text = ctypes.c_void_p(), name.encode()
-        status = self.library.open(text, len(text), ctypes.byref(handle))
-        if status != OK:
-            raise NoMemory() if status == NoMemory.status else NoEngine(f"tiling_open answered {status}")
-        return LibraryMachine(self, name, Rule.built_in(name), handle)
+        return opened(self.library.path, name, None)
 
-    def machine_of(self, data: bytes) -> Machine:
-        if not self.library.open_file:
-            return self.asking().machine_of(data)
-        handle, size = ctypes.c_void_p(), ctypes.c_size_t()
-        line = ctypes.create_string_buffer(LONGEST_LINE)
-        status = self.library.open_file(
-            *(data, len(data), ctypes.byref(handle)),
-            *(line, LONGEST_LINE, ctypes.byref(size)),
-        )
-        if status == OK:
-            return LibraryMachine(self, "-", Rule(document_of(data)), handle, data)
-        raise NoMemory() if status == NoMemory.status else refusal_of(line.raw[: size.value].decode())
+    def machine_of(self, data: bytes) -> "LibraryMachine":
+        return opened(self.library.path, "-", data)
 
 
 class LibraryMachine(Machine):
     """A machine of a built-in rule, or of a rule file with its bytes. It is only read, so threads may share
     it."""
 
-    def __init__(self, engine: LibraryEngine, name: str, rule: Rule, handle, file: Optional[bytes] = None):
-        self.engine, self.name, self.rule, self.library = engine, name, rule, engine.library
-        self.handle, self.file = handle, file
+    def __init__(self, engine: LibraryEngine, name: str, file: Optional[bytes] = None):
+        self.engine, self.name, self.file, self.library = engine, name, file, engine.library
+        self.handle = self._opened()
+        self.asked = CommandMachine(engine, name, file, lambda: self.rule)
 
-    def __reduce__(self):
-        return opened, (self.library.path, self.engine.program, self.name, self.file)
+    def _opened(self) -> ctypes.c_void_p:
+        handle, size = ctypes.c_void_p(), ctypes.c_size_t()
+        line = ctypes.create_string_buffer(LONGEST_LINE)
+        if self.file is None:
+            if self.name not in BUILT_IN:
+                raise BadWords(1)
+            text = self.name.encode()
+            status = self.library.open(text, len(text), ctypes.byref(handle))
+        else:
+            status = self.library.open_file(
+                *(self.file, len(self.file), ctypes.byref(handle), line, LONGEST_LINE, ctypes.byref(size)),
+            )
+        if status == OK:
+            return handle
+        if status == NoMemory.status:
+            raise NoMemory()
+        raise refusal_of(line.raw[: size.value].decode() or f"tiling_open answered {status}")
 
-    def asking(self) -> Machine:
-        """The same rule over the program, for what the library has no call for, and for the line of a
-        refusal."""
-        asked = self.engine.asking()
-        return asked.machine(self.name) if self.file is None else asked.machine_of(self.file)
+    @cached_property
+    def rule(self) -> Rule:
+        """The numbers of the rule."""
+        from .rule_numbers import rule_of
 
-    def address(self, text: str) -> Optional[OneAddress]:
-        """The address of a text, or None where it is none of this rule."""
-        address, line = OneAddress(), str(text).encode("utf-8", "surrogateescape")
-        status = self.library.read_address(self.handle, line, len(line), ctypes.byref(address))
-        return address if status == OK else None
+        return rule_of(self.library, self.handle)
 
-    def place(self, address: str) -> np.ndarray:
-        tile, read, status = np.zeros((), TILE), self.address(address), BAD_ADDRESS
-        if read is not None:
-            status = self.library.place(self.handle, ctypes.byref(read), tile.ctypes.data)
-        return tile if status == OK else self._refused(status, lambda: self.asking().place(address))
+    def __reduce__(self) -> tuple:
+        return opened, (self.library.path, self.name, self.file)
+
+    def _read(self, text: str) -> Optional[Scratch]:
+        """The address of a text in the scratch of this thread, or None where it is none of this rule."""
+        scratch, line = SCRATCH, text.encode("utf-8", "surrogateescape")
+        status = self.library.read_address(self.handle, line, len(line), scratch.to_address)
+        return scratch if status == OK else None
+
+    def place(self, address: str) -> Motion:
+        scratch = self._read(address)
+        if scratch is None or self.library.place(self.handle, scratch.to_address, scratch.to_tile) != OK:
+            return self.asked.place(address)
+        a, b, c, d, _, kind, turn, *_ = ONE_TILE.unpack(scratch.tile)
+        return kind, turn, (a, b, c, d)
 
     def neighbour(self, address: str, edge: int) -> Tuple[str, int]:
-        read, status = self.address(address), BAD_ADDRESS
-        if read is not None and fits(edge, "u1"):
-            back, part = ctypes.c_uint8(), ctypes.c_uint8()
-            status = self.library.neighbour(
-                self.handle, ctypes.byref(read), edge, ctypes.byref(back), ctypes.byref(part)
-            )
-            if status == OK:
-                return self._text(read), back.value
-        return self._refused(status, lambda: self.asking().neighbour(address, edge))
-
-    def _text(self, address: OneAddress) -> str:
-        text, size = ctypes.create_string_buffer(LONGEST_TEXT), ctypes.c_size_t()
-        self.library.write_address(ctypes.byref(address), text, LONGEST_TEXT, ctypes.byref(size))
-        return text.raw[: size.value].decode()
+        scratch = self._read(address)
+        if scratch is None or not 0 <= edge <= 255:
+            return self.asked.neighbour(address, edge)
+        to, library = scratch.to_address, self.library
+        if library.neighbour(self.handle, to, edge, scratch.to_back, scratch.to_part) != OK:
+            return self.asked.neighbour(address, edge)
+        library.write_address(to, scratch.to_text, LONGEST_TEXT, scratch.to_size)
+        return scratch.text.raw[: scratch.size.value].decode(), scratch.back.value
 
     def place_all(self, addresses: Addresses) -> np.ndarray:
         read, wrong = self._read_all(addresses, True)
         tiles, count = np.zeros(len(read), TILE), len(read)
-        from_, to = read.ctypes.data, tiles.ctypes.data
-        if self.library.place_all:
-            self.library.place_all(self.handle, from_, count, to, count)
-        else:
-            place, handle, step, out = self.library.place, self.handle, ADDRESS.itemsize, TILE.itemsize
-            tiles["status"] = [place(handle, from_ + i * step, to + i * out) for i in range(count)]
+        self.library.place_all(self.handle, read.ctypes.data, count, tiles.ctypes.data, count)
         if len(wrong):
             tiles[wrong] = np.zeros((), TILE)
             tiles["status"][wrong] = BAD_ADDRESS
         return tiles
 
     def neighbour_all(
-        self, addresses: Addresses, edges: Sequence[int], out: Optional[np.ndarray] = None
+        self, addresses: Addresses, edges: np.ndarray, out: Optional[np.ndarray] = None
     ) -> Tuple[Addresses, np.ndarray]:
         there, wrong = self._read_all(addresses, False, out)
         small, far = small_edges(edges)
-        crossings = self._crossings(there, small)
+        crossings, count = np.zeros(len(there), CROSSING), len(there)
+        given = (there.ctypes.data, count, small.ctypes.data, count, crossings.ctypes.data, count)
+        self.library.neighbour_all(self.handle, *given)
         numbers = np.empty((len(there), 2), np.uint8)
         numbers[:, 1] = crossings["status"]
         np.multiply(crossings["back"], numbers[:, 1] == OK, out=numbers[:, 0])
         numbers[wrong] = 0, BAD_ADDRESS
         numbers[far] = 0, BadWords.status
-        if out is not None or is_records(addresses):
+        if out is not None or records_of(addresses) is not None:
             return there, numbers
         both = zip(address_texts(there), addresses, (numbers[:, 1] != OK).tolist())
         return [old if is_refused else text for text, old, is_refused in both], numbers
-
-    def _crossings(self, read: np.ndarray, edges: np.ndarray) -> np.ndarray:
-        """What `neighbour` answers for each, as CROSSING (n,); the addresses become those across."""
-        crossings, count = np.zeros(len(read), CROSSING), len(read)
-        if self.library.neighbour_all:
-            given = (read.ctypes.data, count, edges.ctypes.data, count, crossings.ctypes.data, count)
-            self.library.neighbour_all(self.handle, *given)
-            return crossings
-        back, part = ctypes.c_uint8(), ctypes.c_uint8()
-        to_back, to_part = ctypes.byref(back), ctypes.byref(part)
-        neighbour, handle, at, told = self.library.neighbour, self.handle, read.ctypes.data, []
-        for i, edge in enumerate(edges.tolist()):
-            status = neighbour(handle, at + i * ADDRESS.itemsize, edge, to_back, to_part)
-            told.append((status, back.value, part.value))
-        crossings[:] = told
-        return crossings
 
     def _read_all(
         self, addresses: Addresses, is_only_read: bool, out: Optional[np.ndarray] = None
     ) -> Tuple[np.ndarray, np.ndarray]:
         """The addresses as an ADDRESS array without gaps, and the numbers of the texts that are none. The
         array is `out`, or else a new one; if `is_only_read` it can be that of the addresses."""
-        wrong = NO_NUMBERS
-        if not is_records(addresses):
-            read, wrong = self._read_texts(addresses)
-        elif out is not None or (is_only_read and addresses.flags.c_contiguous):
-            read = addresses
+        records, wrong = records_of(addresses), NO_NUMBERS
+        if records is None:
+            read, wrong = self._read_texts(list(addresses))
+        elif out is not None or (is_only_read and records.flags.c_contiguous):
+            read = records
         else:
-            read = copied(addresses)
+            read = copied(records)
         if out is None or out is addresses:
             return read, wrong
         raw(out)[:] = raw(read)
@@ -279,43 +306,55 @@ class LibraryMachine(Machine):
                 wrong.append(i)
         return read, np.array(wrong, np.int64)
 
-    def cover(self, frame: Frame, box: Box, glue: bool = False, addresses: bool = True) -> Found:
-        if not glue or not self.rule.glue:
-            found, status = self._covered(frame, box, addresses)
-        elif self.library.glue:
-            found, status = self._glued(frame, box, addresses)
-        else:
-            found, status = self._joined(frame, box)
-        if status != OK:
-            return self._refused(status, lambda: self.asking().cover(frame, box, glue, addresses))
-        return found if addresses else found._replace(addresses=None)
+    def meeting(self, tiles: np.ndarray, boxes: Sequence[Box]) -> np.ndarray:
+        if self.library.meets_all is None:
+            return super().meeting(tiles, boxes)
+        given, found = np.ascontiguousarray(tiles), np.zeros(len(tiles), bool)
+        for box in boxes:
+            window, flags = np.zeros((), WINDOW), np.zeros(len(tiles), np.uint8)
+            window["at"], (window["w"], window["h"]) = box.at, box.half
+            status = self.library.meets_all(
+                *(
+                    self.handle,
+                    given.ctypes.data,
+                    len(given),
+                    window.ctypes.data,
+                    flags.ctypes.data,
+                    len(flags),
+                )
+            )
+            if status != OK:
+                raise BadWords()
+            found |= flags != 0
+        return found
 
-    def _joined(self, frame: Frame, box: Box) -> Tuple[Found, int]:
-        """As `_glued`, over a library without that call."""
-        found, status = self._covered(frame, box, True)
-        if status != OK:
-            return found, status
-        return glued(self.rule, found, self._mate) or self.asking().cover(frame, box, True), OK
+    def cover(self, frame: Frame, box: Box, glue: bool = False, addresses: bool = True) -> Found:
+        cover = self._glued if glue and self.rule.glue else self._covered
+        found, status = cover(frame, box, addresses)
+        return self._or_refused(status, found, lambda: self.asked.cover(frame, box, glue, addresses))
+
+    def _or_refused(self, status: int, answer: Answer, ask: Callable[[], Answer]) -> Answer:
+        """The answer if the status is OK. Else the same question is asked of the command, which raises the
+        refusal with its fields."""
+        if status == NoMemory.status:
+            raise NoMemory()
+        return answer if status == OK else ask()
 
     def _frame(self, frame: Frame) -> Tuple[np.ndarray, int]:
         """A frame as FRAME, and a status, with which it is refused if that isn't OK."""
-        base, plane = self.address(frame.base), np.zeros((), FRAME)
-        if base is None:
-            return plane, BAD_ADDRESS
-        if not fits(frame.seed, "<u8"):
-            return plane, BadWords.status
-        plane["seed"], plane["base"] = frame.seed, np.frombuffer(base, ADDRESS)[0]
+        scratch, plane = self._read(frame.base), np.zeros((), FRAME)
+        if scratch is None or not fits(frame.seed, "<u8"):
+            return plane, REFUSED
+        plane["seed"], plane["base"] = frame.seed, np.frombuffer(bytes(scratch.address), ADDRESS)[0]
         return plane, OK
 
     def _window(self, frame: Frame, box: Box) -> Tuple[np.ndarray, np.ndarray, int]:
         """A frame as FRAME, a window as WINDOW, and a status: that of their refusal, or OK."""
         (plane, status), window = self._frame(frame), np.zeros((), WINDOW)
-        if status != OK:
-            return plane, window, status
         if not all(fits(half, "<u2") for half in box.half) or not all(fits(a, "<i8") for a in box.at):
-            return plane, window, BadWords.status
+            return plane, window, REFUSED
         window["at"], (window["w"], window["h"]) = box.at, box.half
-        return plane, window, OK
+        return plane, window, status
 
     def _covered(self, frame: Frame, box: Box, addresses: bool) -> Tuple[Found, int]:
         plane, window, status = self._window(frame, box)
@@ -337,7 +376,7 @@ class LibraryMachine(Machine):
             named.resize(count.value, refcheck=False)
         return Found(tiles, named if addresses else None, np.arange(count.value)), status
 
-    def _filled(self, fill: Callable[[int], tuple], box: Box, count: ctypes.c_size_t) -> tuple:
+    def _filled(self, fill: Callable[[int], Any], box: Box, count: ctypes.c_size_t) -> Any:
         """What `fill` answers, with room for all tiles of a window, as far as `count` says."""
         room = min(MOST_TILES, self.rule.most_tiles(box.half))
         status, *filled = fill(room)
@@ -365,97 +404,85 @@ class LibraryMachine(Machine):
         named = taken(found["addresses"], is_part) if addresses else None
         return Found(taken(found["tiles"], is_part), named, numbers), status
 
-    def _mate(self, address: np.ndarray, edge: int) -> Optional[Tuple[np.ndarray, int]]:
-        """The ADDRESS across an edge of a tile, and its edge that leads back; None on the supertile's rim."""
-        there, back, part = np.array(address, ADDRESS), ctypes.c_uint8(), ctypes.c_uint8()
-        status = self.library.neighbour(
-            self.handle, there.ctypes.data, edge, ctypes.byref(back), ctypes.byref(part)
-        )
-        return (there, back.value) if status == OK else None
-
-    def _refused(self, status: int, ask):
-        """The program's own refusal, with its fields, or that of the status where there is no program."""
-        try:
-            return ask()
-        except NoEngine:
-            raise BY_STATUS.get(status, NoEngine)() from None
-
     def listing(self, frame: Frame, box: Box, glue: bool = False) -> bytes:
-        return self.asking().listing(frame, box, glue)
+        return self.asked.listing(frame, box, glue)
 
     def star(self, frame: Frame, vertex: int) -> Found:
         (plane, status), star = self._frame(frame), np.zeros((), STAR)
-        if self.library.star and status == OK and fits(vertex, "u1"):
+        if status == OK and fits(vertex, "u1"):
             status = self.library.star(self.handle, plane.ctypes.data, vertex, star.ctypes.data)
             if status == OK:
                 count = int(star["count"])
                 return Found(star["tiles"][:count], star["addresses"][:count], np.arange(count))
-        return self._refused(status, lambda: self.asking().star(frame, vertex))
+        return self.asked.star(frame, vertex)
 
     def walk(self, frame: Frame, path: Sequence[int], grow: int = 0) -> Found:
-        (plane, status), edges, count = self._frame(frame), np.asarray(path), len(path) + 1
-        is_path = ((0 <= edges) & (edges <= 255)).all() and len(path) <= LONGEST_PATH
-        if self.library.walk and status == OK and is_path and fits(grow, "u1"):
-            small, tiles, addresses = edges.astype(np.uint8), np.zeros(count, TILE), np.zeros(count, ADDRESS)
-            status = self.library.walk(
-                *(self.handle, plane.ctypes.data, grow, small.ctypes.data, len(path)),
-                *(tiles.ctypes.data, count, addresses.ctypes.data, count),
-            )
-            if status == OK:
-                tiles["number"][0] = NO_BACK
-                return Found(tiles, addresses, np.arange(count))
-        return self._refused(status, lambda: self.asking().walk(frame, path, grow))
+        (plane, status), count = self._frame(frame), len(path) + 1
+        if status != OK or not all(fits(edge, "u1") for edge in (*path, grow)) or len(path) > LONGEST_PATH:
+            return self.asked.walk(frame, path, grow)
+        edges, tiles, addresses = np.array(path, np.uint8), np.zeros(count, TILE), np.zeros(count, ADDRESS)
+        status = self.library.walk(
+            *(self.handle, plane.ctypes.data, grow, edges.ctypes.data, len(path)),
+            *(tiles.ctypes.data, count, addresses.ctypes.data, count),
+        )
+        tiles["number"][0] = NO_BACK
+        found = Found(tiles, addresses, np.arange(count))
+        return self._or_refused(status, found, lambda: self.asked.walk(frame, path, grow))
 
     def pair(self, a: str, b: str) -> str:
-        one, other, told = self.address(a), self.address(b), np.zeros((), RELATION)
-        if not self.library.pair or one is None or other is None:
-            return self._refused(BAD_ADDRESS, lambda: self.asking().pair(a, b))
-        self.library.pair(self.handle, ctypes.byref(one), ctypes.byref(other), told.ctypes.data)
+        both, told = np.zeros(2, ADDRESS), np.zeros((), RELATION)
+        for spot, text in enumerate((a, b)):
+            scratch = self._read(text)
+            if scratch is None:
+                self.asked.place(text)  # (which is refused)
+                raise NoEngine(f"{text!r} is refused, and isn't")
+            both[spot] = np.frombuffer(bytes(scratch.address), ADDRESS)[0]
+        self.library.pair(
+            self.handle, both.ctypes.data, both.ctypes.data + ADDRESS.itemsize, told.ctypes.data
+        )
         if told["relation"] != BESIDE:
-            return RELATIONS[told["relation"]]
-        return " ".join(f"{edge}/{back}" for edge, back in enumerate(told["backs"]) if back != NO_BACK)
+            return RELATIONS[int(told["relation"])]
+        return " ".join(
+            f"{edge}/{back}" for edge, back in enumerate(told["backs"].tolist()) if back != NO_BACK
+        )
 
     def common(self, a: str, b: str) -> Optional[int]:
-        return self.asking().common(a, b)
+        return self.asked.common(a, b)
 
     def verify(self, frame: Frame, box: Box, listing: bytes) -> int:
-        return self.asking().verify(frame, box, listing)
+        return self.asked.verify(frame, box, listing)
 
     def verify_tiles(self, frame: Frame, box: Box, found: Found) -> int:
         plane, window, status = self._window(frame, box)
-        if not self.library.verify or status != OK:
-            return self._refused(status, lambda: self.asking().verify_tiles(frame, box, found))
         tiles, addresses = np.ascontiguousarray(found.tiles), np.ascontiguousarray(found.addresses)
         fault, index = ctypes.c_uint8(), ctypes.c_size_t()
-        status = self.library.verify(
-            *(self.handle, plane.ctypes.data, window.ctypes.data, tiles.ctypes.data, len(tiles)),
-            *(addresses.ctypes.data, len(addresses), ctypes.byref(fault), ctypes.byref(index)),
-        )
         if status == OK:
-            return len(tiles)
-        if status != BadListing.status:
-            raise BY_STATUS.get(status, NoEngine)()
-        fields = (FAULTS[fault.value],) if fault.value == MISSING else (FAULTS[fault.value], index.value + 1)
-        raise BadListing(*fields)
+            status = self.library.verify(
+                *(self.handle, plane.ctypes.data, window.ctypes.data, tiles.ctypes.data, len(tiles)),
+                *(addresses.ctypes.data, len(addresses), ctypes.byref(fault), ctypes.byref(index)),
+            )
+        if status == BadListing.status:
+            fields = (
+                (FAULTS[fault.value],) if fault.value == MISSING else (FAULTS[fault.value], index.value + 1)
+            )
+            raise BadListing(*fields)
+        return self._or_refused(status, len(tiles), lambda: self._refused_window(frame, box, len(tiles)))
+
+    def _refused_window(self, frame: Frame, box: Box, count: int) -> int:
+        """Raises why a window is refused, as `draw` does, or that the arrays are too long."""
+        self.asked.cover(frame, box)
+        raise BadListing("TooLong") if count > MOST_TILES else BadWords()
 
 
 @lru_cache(256)
-def opened(path: str, program: Optional[str], name: str, file: Optional[bytes]) -> Machine:
-    """The machine of a pickle. A process that is sent the same one again and again opens it only once, as it
-    never goes away."""
-    engine = LibraryEngine(path, program)
-    return engine.machine(name) if file is None else engine.machine_of(file)
+def opened(path: str, name: str, file: Optional[bytes]) -> LibraryMachine:
+    """The machine of a rule, opened once in a process, as it never goes away."""
+    return LibraryMachine(LibraryEngine(path), name, file)
 
 
 def usual_engine() -> Engine:
-    """The engine over the library if there is one that can be loaded, else over the program. NoEngine."""
-    if places.library():
-        try:
-            return LibraryEngine()
-        except NoEngine:
-            if os.environ.get("TILING_LIBRARY"):
-                raise
-    return ProgramEngine()
+    """The engine over the library. NoEngine without one."""
+    return LibraryEngine()
 
 
 def fits(number: int, kind: str) -> bool:
@@ -464,12 +491,9 @@ def fits(number: int, kind: str) -> bool:
     return limits.min <= number <= limits.max
 
 
-def small_edges(edges: Sequence[int]) -> Tuple[np.ndarray, np.ndarray]:
+def small_edges(asked: np.ndarray) -> Tuple[np.ndarray, np.ndarray]:
     """The numbers of edges as uint8 (n,), without gaps, and where they are none of a uint8. There they become
     255, which is the edge of no tile."""
-    asked = np.asarray(edges)
-    if asked.ndim != 1:
-        raise ValueError("edges are integers (n,)")
     if asked.dtype == np.uint8:
         return np.ascontiguousarray(asked), NO_NUMBERS
     far = np.asarray((asked < 0) | (asked > 255), bool)

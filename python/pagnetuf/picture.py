@@ -1,8 +1,26 @@
-"""Colours of tiles, the same in every picture and page, and pictures of patches as SVG."""
+"""Colours of tiles, the same in every picture and page, and pictures of patches as SVG or in matplotlib."""
 from functools import lru_cache
-from typing import Dict, List, Tuple
+from typing import TYPE_CHECKING, Any, Dict, Iterator, List, Optional, Sequence, Set, Tuple
 
 import numpy as np
+
+from .arguments import one_of
+from .colouring import proper_colouring
+from .rule import Rule
+from .svg import escaped, points, root
+
+if TYPE_CHECKING:
+    from .patch import Patch
+
+# by name, for `--colours`
+PALETTES = {
+    "sea": ("#0b3954", "#087e8b", "#bfd7ea", "#ff5a5f", "#c81d25"),
+    "earth": ("#283618", "#606c38", "#dda15e", "#bc6c25", "#fefae0"),
+    "dusk": ("#355070", "#6d597a", "#b56576", "#e56b6f", "#eaac8b"),
+    "candy": ("#ef476f", "#ffd166", "#06d6a0", "#118ab2", "#073b4c"),
+    "ink": ("#111111", "#555555", "#999999", "#cccccc", "#f5f5f5"),
+}
+BY = ("kind", "turn", "child", "neighbours")
 
 # by kind; so many that the sixteen kinds of a rule are all different
 COLOURS = (
@@ -39,25 +57,14 @@ STEP_COLOURS = (
 )
 
 
-def escaped(text: str) -> str:
-    return str(text).replace("&", "&amp;").replace("<", "&lt;").replace(">", "&gt;").replace('"', "&quot;")
-
-
-def number(value: float, digits: int = 4) -> str:
-    """A number in the fewest characters."""
-    text = f"{value:.{digits}f}".rstrip("0").rstrip(".")
-    return "0" if text == "-0" else text
-
-
-@lru_cache(maxsize=128)
 class Colours:
     """The colours of a rule's tiles: a list by `kind`, one by `turn`, and one by number as a `child`.
 
     `usual` names the first of them that tells tiles of every large patch apart: whole tiles, or with `whole`
     False the rule's own. The kinds of whole tiles come first in the list by kind."""
 
-    def __init__(self, rule, whole: bool = True):
-        first, kinds = rule.whole_kinds(), range(len(rule.kinds))
+    def __init__(self, rule: Rule, whole: bool = True):
+        first, kinds = rule.whole_kinds, range(len(rule.kinds))
         order = [*first, *(kind for kind in kinds if kind not in first)]
         found = [{tile for tile in level if tile[0] in first or not whole} for level in deep_levels(rule)]
         self.by = {
@@ -71,7 +78,13 @@ class Colours:
                 self.usual = name
 
 
-def deep_levels(rule):
+@lru_cache(maxsize=128)
+def colours_of(rule: Rule, whole: bool = True) -> Colours:
+    """The colours of a rule's tiles, computed once."""
+    return Colours(rule, whole)
+
+
+def deep_levels(rule: Rule) -> Iterator[Set[Tuple[int, int]]]:
     """The pairs of a kind and a turn that the tiles of a supertile have, for each depth from 13 to 24."""
     tiles = {(0, 0)}
     for depth in range(1, 25):
@@ -90,53 +103,90 @@ def steps_of(count: int) -> List[str]:
     return [STEP_COLOURS[step * most // count % most] for step in range(count)]
 
 
-def numbers_by(patch, by: str) -> np.ndarray:
-    """The kind, the turn, or the number as a child of each tile; a whole tile has its first half's."""
-    return {"kind": patch.kinds, "turn": patch.turns, "child": patch.addresses["digits"][:, 0, 0]}[by]
+def classes_by(patch: "Patch", by: str) -> np.ndarray:
+    """The class of each tile, that its colour stands for: the kind, the turn, the number as a child, or a
+    proper colouring; a whole tile has its first half's."""
+    if by == "neighbours":
+        return proper_colouring(patch.neighbours())[0]
+    return (
+        {"kind": patch.kinds, "turn": patch.turns}[by]
+        if by != "child"
+        else patch.addresses["digits"][:, 0, 0]
+    )
 
 
-def fills_of(patch, colours, by: str) -> Tuple[str, Dict[int, str]]:
-    """What the colours are by, and the colour of each kind, turn or child that occurs. Given `colours` are by
-    kind, in the order of the kinds."""
-    own = Colours(patch.rule, hasattr(patch, "halves"))
-    by = "kind" if colours else by or own.usual
-    found = np.unique(numbers_by(patch, by)).tolist()
+def fills_of(
+    patch: "Patch", colours: Optional[Sequence[str]], by: Optional[str]
+) -> Tuple[str, np.ndarray, Dict[int, str]]:
+    """What the colours are by, the class of each tile, and the colour of each class that occurs. Given
+    colours are by kind, unless `by` says otherwise."""
+    own = colours_of(patch.rule, hasattr(patch, "halves"))
+    usual = "turn" if own.usual == "child" and not patch.has_addresses else own.usual
+    by = one_of("by", by or ("kind" if colours else usual), BY)
+    classes = classes_by(patch, by)
+    found = np.unique(classes).tolist()
     if colours:
-        return by, {number_: colours[i % len(colours)] for i, number_ in enumerate(found)}
-    return by, {number_: own.by[by][number_] for number_ in found}
+        return by, classes, {name: colours[i % len(colours)] for i, name in enumerate(found)}
+    known = own.by.get(by, COLOURS)
+    return by, classes, {name: known[name % len(known)] for name in found}
 
 
-def svg_of(patch, width: int = 800, colours=None, ids: bool = False, by: str = "") -> str:
-    """See `Patch.to_svg`. `by` is kind, turn or child; the usual one by default."""
+def svg_of(
+    patch: "Patch",
+    width: int = 800,
+    colours: Optional[Sequence[str]] = None,
+    ids: bool = False,
+    by: Optional[str] = None,
+) -> str:
+    """See `Patch.to_svg`."""
     xy = patch.xy() * (1, -1)
     low, high = np.zeros(2), np.ones(2)
     if len(patch):
         low, high = np.nanmin(xy, (0, 1)) - 0.1, np.nanmax(xy, (0, 1)) + 0.1
-    box = " ".join(number(value) for value in (*low, *(high - low)))
     tall = round(width * float((high - low)[1] / (high - low)[0]))
-    by, fills = fills_of(patch, colours, by)
-    children = numbers_by(patch, by).tolist() if by == "child" else None
-    version = "" if ids else ' version="1.1"'  # (attributes such as data-near are of SVG 2)
+    by, classes, fills = fills_of(patch, colours, by)
+    extra = classes.tolist() if by in ("child", "neighbours") else None
+    version = "" if ids else "1.1"  # (attributes such as data-near are of SVG 2)
     out = [
-        f'<svg xmlns="http://www.w3.org/2000/svg"{version} viewBox="{box}" width="{width}" height="{tall}">',
+        root((*low, *(high - low)), width, tall, version),
         '<style type="text/css">.tile{stroke:#222;stroke-width:.04;stroke-linejoin:round}',
-        *(f".{by[0]}{number_}{{fill:{escaped(colour)}}}" for number_, colour in fills.items()),
+        *(f".{by[0]}{name}{{fill:{escaped(colour)}}}" for name, colour in fills.items()),
         "</style>",
     ]
-    return "\n".join([*out, *polygons(patch, xy, ids, children), "</svg>", ""])
+    return "\n".join([*out, *polygons(patch, xy, ids, by[0], extra), "</svg>", ""])
 
 
-def polygons(patch, xy: np.ndarray, ids: bool, children=None):
-    """The polygon of each tile; of the class cN too where the tiles' numbers as children are given."""
-    near, addresses = (patch.neighbours().tolist(), patch.address_texts()) if ids else (None, None)
+def polygons(
+    patch: "Patch", xy: np.ndarray, ids: bool, letter: str = "", extra: Optional[List[int]] = None
+) -> Iterator[str]:
+    """The polygon of each tile; with `extra` also of a class of this letter and that number."""
+    near = patch.neighbours().tolist() if ids else []
+    addresses = patch.address_texts() if ids else []
     rows = zip(patch.kinds.tolist(), patch.turns.tolist(), xy.tolist(), patch.counts.tolist())
     for tile, (kind, turn, corners, count) in enumerate(rows):
-        points = " ".join(f"{number(x)},{number(y)}" for x, y in corners[:count])
-        child = "" if children is None else f" c{children[tile]}"
-        look = f'class="tile k{kind} t{turn}{child}" points="{points}"'
+        own = "" if extra is None else f" {letter}{extra[tile]}"
+        look = f'class="tile k{kind} t{turn}{own}" points="{points(corners[:count])}"'
         if not ids:
             yield f"<polygon {look}/>"
             continue
         others = " ".join("-" if other < 0 else str(other) for other in near[tile][:count])
         name = f'id="tile{tile}" data-near="{others}"'
         yield f"<polygon {name} {look}><title>{addresses[tile]}</title></polygon>"
+
+
+def plotted(
+    patch: "Patch", ax: Any, by: Optional[str], colours: Optional[Sequence[str]], look: Dict[str, Any]
+) -> Any:
+    """See `Patch.plot`."""
+    from .exports import needed
+
+    collections = needed("matplotlib.collections", "matplotlib")
+    if ax is None:
+        _, ax = needed("matplotlib.pyplot", "matplotlib").subplots()
+    _, classes, fills = fills_of(patch, colours, by)
+    look = {"edgecolors": "#222222", "linewidths": 0.5, **look}
+    look.setdefault("facecolors", [fills[name] for name in classes.tolist()])
+    ax.add_collection(collections.PolyCollection(patch.polygons(), **look))
+    ax.set_aspect("equal")
+    ax.autoscale_view()
+    return ax

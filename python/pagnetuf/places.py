@@ -1,14 +1,19 @@
-"""Where the package finds the program, the C library, rule files and scripts: in a checkout, or where
-packaging/install.sh puts them."""
+"""Where the package finds the C library, rule files, the page, and the program: beside its own files, as a
+wheel has them, in a checkout, or where packaging/install.sh puts them."""
 import os
+import re
 import shutil
-from typing import Optional
+import sys
+from typing import List, Optional
 
 HERE = os.path.dirname(os.path.abspath(__file__))
 CHECKOUT = os.path.normpath(os.path.join(HERE, os.pardir, os.pardir))
 # PREFIX/lib/python3/dist-packages/pagnetuf is this folder once it is installed
 PREFIX = os.path.normpath(os.path.join(CHECKOUT, os.pardir, os.pardir))
-LIBRARY = "libtiling.so.0"
+LIBRARIES = {
+    "darwin": ("libtiling.0.dylib", "libtiling.dylib"),
+    "win32": ("tiling.dll", "libtiling.dll"),
+}.get(sys.platform, ("libtiling.so.0", "libtiling.so"))
 
 
 def program() -> Optional[str]:
@@ -25,19 +30,38 @@ def program() -> Optional[str]:
 
 def library() -> Optional[str]:
     """The path of the C library: TILING_LIBRARY, next to the package's files, the built one of a checkout, or
-    the installed one. The empty text in TILING_LIBRARY means none."""
+    the installed one."""
     named = os.environ.get("TILING_LIBRARY")
-    if named is not None:
-        return named or None
+    if named:
+        return named
     folders = (HERE, os.path.join(CHECKOUT, ".tiling"), os.path.join(PREFIX, "lib"))
-    found = [path for path in (os.path.join(folder, LIBRARY) for folder in folders) if os.path.exists(path)]
-    return found[0] if found else None
+    return first_of([os.path.join(folder, name) for folder in folders for name in LIBRARIES])
 
 
-def shared(*names: str) -> str:
-    """The path of a file or folder of a checkout, as rules or tools, or of the installed one."""
-    there = os.path.join(CHECKOUT, *names)
-    return there if is_checkout() else os.path.join(PREFIX, "share", "tiling", *names)
+def first_of(paths: List[str]) -> Optional[str]:
+    """The first of some paths where there is a file or a folder."""
+    return next((path for path in paths if os.path.exists(path)), None)
+
+
+def rules() -> str:
+    """The folder of rule files: next to the package's files, in a checkout, or the installed one."""
+    beside = [os.path.join(HERE, "rules"), *([os.path.join(CHECKOUT, "rules")] if is_checkout() else [])]
+    installed = os.path.join(PREFIX, "share", "tiling", "rules")
+    return first_of([*beside, installed]) or installed
+
+
+def rule_file(name: str) -> Optional[str]:
+    """The path of the rule file of a name, such as sphinx, or None where there is none."""
+    path = os.path.join(rules(), f"{name}.toml")
+    return path if re.fullmatch(r"[a-z0-9_]{1,60}", name) and os.path.exists(path) else None
+
+
+def page() -> Optional[str]:
+    """The page to pan and zoom: next to the package's files, in a checkout, or the installed one."""
+    installed = os.path.join(PREFIX, "share", "doc", "tiling", "docs", "explore.html")
+    return first_of(
+        [os.path.join(HERE, "explore.html"), os.path.join(CHECKOUT, "docs", "explore.html"), installed]
+    )
 
 
 def shown(path: str) -> str:
@@ -52,5 +76,6 @@ def is_checkout() -> bool:
 
 
 def command() -> str:
-    """What a user types before the program's arguments."""
-    return "./tiling" if is_checkout() else "tiling"
+    """What a user types before the arguments of the engine: `tiling` where it is installed, as its launcher
+    reports, ./tiling in a checkout, and else `pagnetuf`, which takes them too."""
+    return os.environ.get("TILING_COMMAND") or ("./tiling" if is_checkout() else "pagnetuf")

@@ -1,58 +1,63 @@
-"""The numbers of a rule, as a rule file has them: see docs/FORMATS.md, "The rule file"."""
+"""The numbers of a rule: see docs/FORMATS.md, "The rule file"."""
+import json
 import math
-import os
-import runpy
 from functools import cached_property
-from typing import List, Tuple
+from typing import Any, Sequence, Tuple
 
 import numpy as np
 
-from . import places
-from .built_in import BUILT_IN
+from .arguments import frozen
 from .geometry import Ring
 
 
 class Kind:
-    """A prototile: `vertices` is int64 (m, 4), `edges` the types of its edges, `children` int64 (c, 6): kind,
-    turn, shift."""
+    """A prototile: `vertices` is int64 (m, 4), `children` int64 (c, 6): kind, turn, shift. `glue_edge` is the
+    edge along which two halves are one whole tile, or -1."""
 
-    def __init__(self, entry: dict):
-        self.vertices = np.array(entry["vertices"], np.int64).reshape(-1, 4)
-        self.edges: Tuple[int, ...] = tuple(entry["edges"])
-        self.children = np.array(entry["children"], np.int64).reshape(-1, 6)
+    def __init__(self, vertices: Any, children: Any, glue_edge: int = -1):
+        self.vertices = frozen(np.array(vertices, np.int64).reshape(-1, 4))
+        self.children = frozen(np.array(children, np.int64).reshape(-1, 6))
+        self.glue_edge = int(glue_edge)
 
 
 class Rule:
-    """A rule's order, inflation factor, edge types and prototiles, and what geometry needs of them."""
+    """A rule's order, inflation factor and prototiles, and what geometry needs of them. `whole_kinds` are the
+    kinds that whole tiles may have: those without a glue edge, and those of first halves."""
 
-    def __init__(self, document: dict):
-        self.order: int = document["order"]
-        self.ring = Ring(self.order)
-        self.factor = np.array(document["lambda"], np.int64)
-        self.mates: List[int] = [entry["mate"] for entry in document["type"]]
-        self.parts: List[List[int]] = [entry["parts"] for entry in document["type"]]
-        self.kinds = [Kind(entry) for entry in document["kind"]]
-        self.glue = {kind for given in document["glue"] for kind in (given, self.mates[given])}
-        self.glue_edges = np.array([self._glue_edge(kind) for kind in self.kinds])
-        self.corner_counts = np.array([len(kind.vertices) for kind in self.kinds])
-        self.corner_table = self._corner_table()
+    def __init__(self, order: int, factor: Sequence[int], kinds: Sequence[Kind], whole_kinds: Sequence[int]):
+        self.order, self.ring, self.kinds = order, Ring(order), list(kinds)
+        self.factor = frozen(np.array(factor, np.int64))
+        self.whole_kinds = [int(kind) for kind in whole_kinds]
+        self.glue_edges = frozen(np.array([kind.glue_edge for kind in self.kinds]))
+        self.glue = bool((self.glue_edges >= 0).any())
+        self.corner_counts = frozen(np.array([len(kind.vertices) for kind in self.kinds]))
+        self.corner_table = frozen(self._corner_table())
+
+    def __repr__(self) -> str:
+        return f"<Rule: order {self.order}, {len(self.kinds)} kinds>"
+
+    def to_text(self) -> str:
+        """The numbers of the rule as a text of JSON, from which `from_text` makes it again."""
+        kinds = [
+            {
+                "vertices": kind.vertices.tolist(),
+                "children": kind.children.tolist(),
+                "glue_edge": kind.glue_edge,
+            }
+            for kind in self.kinds
+        ]
+        numbers = {"order": self.order, "factor": self.factor.tolist(), "whole_kinds": self.whole_kinds}
+        return json.dumps({**numbers, "kinds": kinds})
 
     @classmethod
-    def built_in(cls, name: str) -> "Rule":
-        return cls(BUILT_IN[name])
-
-    def _glue_edge(self, kind: Kind) -> int:
-        """The edge along which two halves are one whole tile, or -1."""
-        return next((edge for edge, type_of in enumerate(kind.edges) if type_of in self.glue), -1)
-
-    def whole_kinds(self) -> List[int]:
-        """The kinds that whole tiles may have: those without a glue edge, and those of first halves."""
-        types = [kind.edges[edge] if edge >= 0 else None for kind, edge in zip(self.kinds, self.glue_edges)]
-        return [
-            kind
-            for kind, type_of in enumerate(types)
-            if type_of is None or self.mates[type_of] in types[kind:]
-        ]
+    def from_text(cls, text: str) -> "Rule":
+        """The rule of the text that `to_text` made. ValueError for another text."""
+        try:
+            numbers = json.loads(text)
+            kinds = [Kind(**kind) for kind in numbers.pop("kinds")]
+            return cls(kinds=kinds, **numbers)
+        except (TypeError, KeyError, AttributeError) as fault:
+            raise ValueError("the text isn't one that Rule.to_text made") from fault
 
     def _corner_table(self) -> np.ndarray:
         """The corners of each kind in each turn: int64 (kinds, order, M, 4), the last corner again up to M,
@@ -74,13 +79,14 @@ class Rule:
     @cached_property
     def extent(self) -> Tuple[float, float]:
         """How far a tile reaches in X and Y at most, from one end to the other."""
-        x, y = (self.ring.value(it) for it in self.ring.scaled(self.corner_table))
-        return tuple(float((it.max(-1) - it.min(-1)).max()) for it in (x, y))
+        wide, high = (np.ptp(self.ring.value(it), -1).max() for it in self.ring.scaled(self.corner_table))
+        return float(wide), float(high)
 
     @cached_property
     def reach(self) -> Tuple[float, float]:
         """How far the corners of a tile lie in X and Y at most from the place to which its shift leads."""
-        return tuple(float(abs(self.ring.value(it)).max()) for it in self.ring.scaled(self.corner_table))
+        wide, high = (abs(self.ring.value(it)).max() for it in self.ring.scaled(self.corner_table))
+        return float(wide), float(high)
 
     @cached_property
     def _least_area(self) -> float:
@@ -111,30 +117,3 @@ class Rule:
             if len(found):
                 return number, int(child[0]), int(found[0])
         raise ValueError("no child has this vertex: the rule isn't accepted")
-
-
-def document_of(data: bytes) -> dict:
-    """The TOML document of a rule file's bytes, by tomllib (Python 3.11 or later), else by the package tomli.
-    They read TOML 1.0; a file of TOML 1.1, which the program reads, is first written so."""
-    try:
-        import tomllib
-    except ModuleNotFoundError:
-        try:
-            import tomli as tomllib
-        except ModuleNotFoundError:
-            raise ModuleNotFoundError(
-                "to read a rule file, Python before 3.11 needs the package tomli"
-            ) from None
-    text = data.decode("utf-8-sig").replace("\r\n", "\n")
-    try:
-        return tomllib.loads(text)
-    except tomllib.TOMLDecodeError:
-        return tomllib.loads(older_text(text))
-
-
-def older_text(text: str) -> str:
-    """A text of TOML 1.1 as one of 1.0, by tools/older_toml.py; the text itself without that file."""
-    path = places.shared("tools", "older_toml.py")
-    if not os.path.exists(path):
-        return text
-    return "".join(runpy.run_path(path)["Older"](text).pieces)

@@ -5,11 +5,13 @@ of any size; each centre of a window has coefficients up to 2^20. It is cut into
 without gaps or overlaps.
 
 A tile belongs to the first window that it meets: rows from below, each from the left. The engine lists
-exactly the tiles that meet a window. Whether one of them meets an earlier window too is decided here by exact
-signs: two convex sets without their boundaries, a triangle of the tile and the window, are apart exactly if
-the direction of a side of one of them separates them. Only tiles at the rim of a window can meet another. So
-the pieces have together exactly the tiles that meet the region, each exactly once. A whole tile counts as its
-halves do.
+exactly the tiles that meet a window. Whether one of them meets an earlier window too is decided by exact
+signs; only tiles at the rim of a window can meet another. So the pieces have together exactly the tiles that
+meet the region, each exactly once. A whole tile counts as its halves do.
+
+A vertex belongs to the window in which it lies, and an edge to that in which its middle lies, where a window
+has its left and its lower side and not the others. So the pieces have each vertex of the region exactly once,
+and each edge.
 
     for piece in Tiling("p3").sheet((2000, 1500), executor=ProcessPoolExecutor()):
         ...  # a Patch
@@ -21,40 +23,74 @@ what `each` makes of the piece there:
     sum(Tiling("p3").sheet((20000, 15000), executor=executor, each=len))"""
 import math
 from collections import deque
-from typing import Any, Callable, Iterator, List, NamedTuple, Optional, Sequence, Tuple
+from contextlib import contextmanager
+from functools import partial
+from typing import (
+    TYPE_CHECKING,
+    Any,
+    Callable,
+    Deque,
+    Generator,
+    Iterator,
+    List,
+    NamedTuple,
+    Optional,
+    Sequence,
+    Tuple,
+)
 
 import numpy as np
 
+from .arguments import Point
 from .engine import ADDRESS, MOST_TILES, TILE, Box, Found, Frame, Machine, raw, taken
-from .inside import fan
 from .patch import Patch, WholePatch, named, whole_patch
+from .progress import progress_of
+from .refusals import Refusal
 from .rule import Rule
+
+if TYPE_CHECKING:
+    from .tiling import Tiling
 
 # up to how many tiles a window has, in a region with up to MANY_TILES, and in a larger one
 USUAL_TILES, LARGER_TILES, MANY_TILES = 50_000, 100_000, 20_000_000
 NEAR = 0.01
+FARTHEST = 1 << 20  # of a coefficient of a window's centre
 # what added to a point adds 2 to X and leaves Y, and what adds 2 to Y and leaves X
 RIGHT = (1, 0, 0, 0)
 UP = {4: (0, 2, 0, 0), 6: (-1, 2, 0, 0), 8: (0, 1, 0, 1), 10: (-1, 2, -1, 1)}
 
 
+class Task(NamedTuple):
+    """A window of a sheet: what is computed of it, with the earlier windows beside it."""
+
+    machine: Machine
+    frame: Frame
+    box: Box
+    earlier: Sequence[Box]
+    whole: bool
+    addresses: bool
+    of: str = "tiles"
+
+
 class Sheet:
     """A region, its windows, and the tiles of each, with their addresses or without. `piece` is the most that
-    a window's `half` may be; `whole` joins halves; `part` is as for `Tiling.sheet`."""
+    a window's `half` may be; `whole` joins halves; `part` and `of` are as for `Tiling.sheet`. ValueError for
+    a region that reaches beyond the points that a window may have as its centre."""
 
     def __init__(
         self,
-        tiling,
+        tiling: "Tiling",
         half: Tuple[int, int],
-        at: Tuple[int, int, int, int],
+        at: Point,
         frame: Frame,
-        piece=None,
+        piece: Optional[Tuple[int, int]] = None,
         whole: bool = False,
         addresses: bool = True,
         part: Tuple[int, int] = (0, 1),
+        of: str = "tiles",
     ):
         self.machine, self.frame, self.at = tiling.machine, frame, np.array(at, np.int64)
-        self.whole, self.addresses, self.part = whole, addresses, part
+        self.whole, self.addresses, self.part, self.of = whole, addresses and of == "tiles", part, of
         if not 0 <= part[0] < part[1]:
             raise ValueError(f"part is (i, n) with 0 <= i < n, and not {part!r}")
         widest = tile_extent(tiling.rule)
@@ -64,17 +100,33 @@ class Sheet:
             if len(sizes) > 1 and 2 * min(sizes) < extent:
                 raise ValueError(f"a piece has to be at least as large as a tile, whose extent is {extent}")
         self._rights, self._ups = middles(self.columns), middles(self.rows)
+        self._check_reach()
+
+    def _check_reach(self) -> None:
+        """ValueError unless the centre of each window is within the limit; the corners have the greatest."""
+        up, right = np.array(UP[self.machine.rule.order]), np.array(RIGHT)
+        for across in (self._rights[0], self._rights[-1]):
+            for along in (self._ups[0], self._ups[-1]):
+                if abs(self.at + right * across + up * along).max() > FARTHEST:
+                    raise ValueError(
+                        f"the region reaches beyond coefficients of {FARTHEST}: use a smaller one"
+                    )
+
+    def __len__(self) -> int:
+        """How many pieces this part has."""
+        first, step = self.part
+        return len(range(first, len(self.rows), step)) * len(self.columns)
 
     def boxes(self, row: int) -> List[Box]:
         """The windows of a row, from the left. The rows are numbered from below."""
         up, right = np.array(UP[self.machine.rule.order]), np.array(RIGHT)
         middle = self.at + up * self._ups[row]
+        places_of = [(middle + right * place).tolist() for place in self._rights]
         return [
-            Box(tuple((middle + right * place).tolist()), (wide, self.rows[row]))
-            for place, wide in zip(self._rights, self.columns)
+            Box((a, b, c, d), (wide, self.rows[row])) for (a, b, c, d), wide in zip(places_of, self.columns)
         ]
 
-    def tasks(self) -> Iterator[tuple]:
+    def tasks(self) -> Iterator[Task]:
         """For each window of this part what `owned` needs."""
         first, step = self.part
         for row in range(first, len(self.rows), step):
@@ -82,32 +134,112 @@ class Sheet:
             for column, box in enumerate(line):
                 left = max(0, column - 1)
                 earlier = [*below[left : column + 2], *line[left:column]]
-                yield self.machine, self.frame, box, earlier, self.whole, self.addresses
+                yield Task(self.machine, self.frame, box, earlier, self.whole, self.addresses, self.of)
 
     def pieces(
-        self, executor=None, ahead: int = 16, each: Optional[Callable[[Patch], Any]] = None
-    ) -> Iterator[Any]:
-        """The patches, in order, or what `each` makes of them. With an executor at most `ahead` windows are
-        under way, and `each` is called where a window is computed: a process pool has to be able to pickle
-        it."""
-        if executor is None:
-            patches = (patch_of(task[0], owned(*task)) for task in self.tasks())
-            yield from patches if each is None else map(each, patches)
-        elif each is not None:
-            yield from self._results(executor, ahead, made, each)
-        else:
-            for found in self._results(executor, ahead, packed):
-                yield patch_of(self.machine, found.unpacked())
+        self,
+        executor: Any = None,
+        ahead: int = 16,
+        each: Optional[Callable[[Any], Any]] = None,
+        start: int = 0,
+        progress: bool = False,
+    ) -> "Pieces":
+        """The patches, in order, or what `each` makes of them: see `Tiling.sheet`."""
+        return Pieces(self, executor, ahead, each, start, progress)
 
-    def _results(self, executor, ahead: int, call: Callable, *first) -> Iterator[Any]:
-        """What a call answers for each window, in order."""
-        waiting = deque()
-        for task in self.tasks():
-            waiting.append(executor.submit(call, *first, *task))
-            if len(waiting) >= ahead:
-                yield waiting.popleft().result()
-        while waiting:
-            yield waiting.popleft().result()
+
+class Pieces:
+    """The pieces of a sheet, in order, as an iterator with a length. `done` is how many have come; `close`,
+    or leaving a loop, cancels what waits."""
+
+    def __init__(
+        self,
+        sheet: Sheet,
+        executor: Any = None,
+        ahead: int = 16,
+        each: Optional[Callable[[Any], Any]] = None,
+        start: int = 0,
+        progress: bool = False,
+    ):
+        if not 0 <= start <= len(sheet):
+            raise ValueError(
+                f"start is from 0 to {len(sheet)}, which is how many pieces there are, and not {start}"
+            )
+        self.sheet, self.done, self.start = sheet, 0, start
+        self._found = self._made(executor, max(1, ahead), each)
+        self._shown = progress_of(len(sheet) - start, "windows") if progress else None
+
+    def __len__(self) -> int:
+        return len(self.sheet) - self.start
+
+    def __iter__(self) -> "Pieces":
+        return self
+
+    def __next__(self) -> Any:
+        try:
+            piece = next(self._found)
+        except StopIteration:
+            if self._shown:
+                self._shown.end()
+            raise
+        self.done += 1
+        if self._shown:
+            self._shown.step()
+        return piece
+
+    def close(self) -> None:
+        """Ends the work: what waits is cancelled, and what is under way is left to itself."""
+        self._found.close()
+        if self._shown:
+            self._shown.end()
+
+    def __del__(self) -> None:
+        if hasattr(self, "_found"):
+            self._found.close()
+
+    def _made(
+        self, executor: Any, ahead: int, each: Optional[Callable[[Any], Any]]
+    ) -> Generator[Any, None, None]:
+        tasks = enumerate(self.sheet.tasks())
+        numbered = ((number, task) for number, task in tasks if number >= self.start)
+        if executor is None:
+            for number, task in numbered:
+                with named_fault(number, task.box):
+                    piece = piece_of(task)
+                    piece = piece if each is None else each(piece)
+                yield piece
+            return
+        call = packed if each is None and self.sheet.of == "tiles" else partial(made, each)
+        waiting: Deque[Tuple[int, Task, Any]] = deque()
+        try:
+            for number, task in numbered:
+                waiting.append((number, task, executor.submit(call, task)))
+                if len(waiting) >= ahead:
+                    yield self._taken(*waiting.popleft())
+            while waiting:
+                yield self._taken(*waiting.popleft())
+        finally:
+            for _, _, future in waiting:
+                future.cancel()
+
+    def _taken(self, number: int, task: Task, future: Any) -> Any:
+        with named_fault(number, task.box):
+            found = future.result()
+        return patch_of(task.machine, found.unpacked()) if isinstance(found, Packed) else found
+
+
+@contextmanager
+def named_fault(number: int, box: Box) -> Iterator[None]:
+    """Says of a fault in which piece it was, and how to go on."""
+    try:
+        yield
+    except Exception as fault:
+        told = f"in piece {number}, the window at={box.at} half={box.half}; start={number} goes on from there"
+        if hasattr(fault, "add_note"):
+            fault.add_note(told)
+        elif not isinstance(fault, Refusal):  # before Python 3.11
+            fault.args = (*fault.args, told)
+        raise
 
 
 class Packed(NamedTuple):
@@ -143,26 +275,52 @@ class Packed(NamedTuple):
         return Found(tiles, addresses, self.whole)
 
 
-def packed(*task) -> Packed:
+def packed(task: Task) -> Packed:
     """The tiles that a window of a sheet owns, for another process."""
-    return Packed.of(owned(*task))
+    return Packed.of(owned(task))
 
 
-def made(each: Callable[[Patch], Any], machine: Machine, *task) -> Any:
-    """What a function makes of the tiles that a window of a sheet owns."""
-    return each(patch_of(machine, owned(machine, *task)))
+def made(each: Optional[Callable[[Any], Any]], task: Task) -> Any:
+    """What a function makes of a piece; without one, the piece."""
+    piece = piece_of(task)
+    return piece if each is None else each(piece)
 
 
-def owned(
-    machine: Machine, frame: Frame, box: Box, earlier: Sequence[Box], whole: bool, addresses: bool = True
-) -> Found:
+def piece_of(task: Task) -> Any:
+    """The patch of a window, or its vertices or edges."""
+    if task.of == "tiles":
+        return patch_of(task.machine, owned(task))
+    found = task.machine.cover(task.frame, task.box, task.whole, False)
+    patch = patch_of(task.machine, found if task.whole else found._replace(whole=None))
+    points = patch.vertices()
+    if task.of == "vertices":
+        return points[lying_in(patch.rule, points, task.box)]
+    ends = points[patch.edges()]
+    (a, b, c, d), (wide, high) = task.box
+    doubled = Box((2 * a, 2 * b, 2 * c, 2 * d), (2 * wide, 2 * high))
+    return ends[lying_in(patch.rule, ends.sum(1), doubled)]
+
+
+def lying_in(rule: Rule, points: np.ndarray, box: Box) -> np.ndarray:
+    """Which points (n, 4) lie in a window with its left and its lower side, exactly: bool (n,)."""
+    inside = np.ones(len(points), bool)
+    for along, half in zip(rule.ring.scaled(points - np.array(box.at)), box.half):
+        from_left, from_right = along.copy(), along.copy()
+        from_left[:, 0] += half
+        from_right[:, 0] -= half
+        inside &= (rule.ring.signs(from_left) >= 0) & (rule.ring.signs(from_right) < 0)
+    return inside
+
+
+def owned(task: Task) -> Found:
     """The tiles of a window that meet none of the earlier ones, which have no inner point in common with it.
     With `whole`, the halves of whole tiles; without, `Found.whole` is None."""
-    found = machine.cover(frame, box, whole, addresses)
-    old = old_tiles(machine.rule, found.tiles, box, earlier)
-    if not whole:
+    found = task.machine.cover(task.frame, task.box, task.whole, task.addresses)
+    old = old_tiles(task.machine, found.tiles, task.box, task.earlier)
+    if not task.whole:
         kept = np.delete(np.arange(len(found.tiles)), old)
         return Found(taken(found.tiles, kept), named(found.addresses, kept), None)
+    assert found.whole is not None
     is_kept = np.ones(int(found.whole[-1]) + 1 if len(found.whole) else 0, bool)
     is_kept[found.whole[old]] = False
     kept = np.flatnonzero(is_kept[found.whole])
@@ -170,12 +328,12 @@ def owned(
     return Found(taken(found.tiles, kept), named(found.addresses, kept), numbers)
 
 
-def old_tiles(rule: Rule, tiles: np.ndarray, box: Box, earlier: Sequence[Box]) -> np.ndarray:
+def old_tiles(machine: Machine, tiles: np.ndarray, box: Box, earlier: Sequence[Box]) -> np.ndarray:
     """The numbers of the tiles of a window that meet an earlier one: int64 (k,), ascending."""
     if not earlier:
         return np.zeros(0, np.int64)
-    rim = beyond(rule, tiles["shift"], box)
-    return rim[meeting(Patch(rule, taken(tiles, rim), None), *earlier)]
+    rim = beyond(machine.rule, tiles["shift"], box)
+    return rim[machine.meeting(taken(tiles, rim), earlier)]
 
 
 def beyond(rule: Rule, shifts: np.ndarray, box: Box) -> np.ndarray:
@@ -198,67 +356,31 @@ def patch_of(machine: Machine, found: Found) -> Patch:
     """The tiles, or the whole tiles of halves if they are numbered."""
     if found.whole is None:
         return Patch(machine.rule, found.tiles, found.addresses)
-    return whole_patch(machine.rule, *found)
+    return whole_patch(machine.rule, found.tiles, found.addresses, found.whole)
 
 
-def gathered(pieces: List[Patch]) -> Patch:
+def gathered(pieces: Sequence[Patch]) -> Patch:
     """One patch of several."""
     rule = pieces[0].rule
-    if not isinstance(pieces[0], WholePatch):
-        return Patch(rule, joined([it.tiles for it in pieces]), joined([it._addresses for it in pieces]))
-    starts = np.cumsum([0] + [len(it.half_tiles) for it in pieces])
-    halves = np.concatenate(
-        [np.where(it.halves < 0, -1, it.halves + start) for it, start in zip(pieces, starts)]
-    )
-    return WholePatch(
-        rule,
-        joined([it.half_tiles for it in pieces]),
-        joined([it._half_addresses for it in pieces]),
-        halves,
-    )
+    wholes = [it for it in pieces if isinstance(it, WholePatch)]
+    if not wholes:
+        tiles = _one_of([it.tiles for it in pieces])
+        return Patch(rule, tiles, _one_or_none([it._addresses for it in pieces]))
+    starts = np.cumsum(np.array([0, *(len(it.half_tiles) for it in wholes)]))
+    halves = [np.where(it.halves < 0, -1, it.halves + start) for it, start in zip(wholes, starts)]
+    addresses = _one_or_none([it._half_addresses for it in wholes])
+    return WholePatch(rule, _one_of([it.half_tiles for it in wholes]), addresses, np.concatenate(halves))
 
 
-def joined(arrays: List[Optional[np.ndarray]]) -> Optional[np.ndarray]:
-    """One structured array of several, or None where one is missing."""
-    if any(it is None for it in arrays):
-        return None
+def _one_of(arrays: Sequence[np.ndarray]) -> np.ndarray:
+    """One structured array of several."""
     return np.concatenate([raw(it) for it in arrays]).view(arrays[0].dtype)
 
 
-def meeting(patch: Patch, *boxes: Box) -> np.ndarray:
-    """Which tiles of a patch meet one of these windows, exactly: bool (n,)."""
-    ring, answer = patch.rule.ring, np.zeros(len(patch), bool)
-    at, half = np.array([box.at for box in boxes]), np.array([box.half for box in boxes])
-    is_near = np.ones((len(boxes), len(patch)), bool)
-    for along, middle, side in zip(ring.scaled(patch.outlines()), ring.scaled(at), half.T):
-        value, middle = ring.value(along), ring.value(middle)
-        # (what is clearly apart needs no exact sign)
-        is_near &= value.min(1) < (middle + side + NEAR)[:, None]
-        is_near &= value.max(1) > (middle - side - NEAR)[:, None]
-    which, near = np.nonzero(is_near)
-    triangles, real = fan(patch, near)
-    apart = separated(ring, triangles - at[which][:, None, None], *half[which].T[..., None])
-    answer[near[(real & ~apart).any(1)]] = True
-    return answer
-
-
-def separated(ring, triangles: np.ndarray, wide: np.ndarray, tall: np.ndarray) -> np.ndarray:
-    """Whether triangles (.., 3, 4), counterclockwise, and the boxes |X| < wide, |Y| < tall have no inner
-    point in common. `wide` and `tall` are integers (..), or can be broadcast to that."""
-    corners = np.stack(ring.scaled(triangles))  # (2, .., 3, 2): X and Y of each corner
-    half = np.stack(np.broadcast_arrays(wide, tall))[..., None]
-    beyond_side = ring.signs(np.stack([corners, -corners]) - whole_number(half)) >= 0
-    sides = corners[..., [1, 2, 0], :] - corners
-    # of the box the corner that lies farthest to the left of a side: it is left of it if any is
-    up, right = ring.signs(sides) * half[::-1]
-    to_up, to_right = whole_number(up) - corners[1], whole_number(-right) - corners[0]
-    left = ring.product(sides[0], to_up) - ring.product(sides[1], to_right)
-    return beyond_side.all(-1).any((0, 1)) | (ring.signs(left) <= 0).any(-1)
-
-
-def whole_number(numbers: np.ndarray) -> np.ndarray:
-    """Integers as pairs for p + q surd."""
-    return np.stack([numbers, np.zeros_like(numbers)], -1)
+def _one_or_none(arrays: Sequence[Optional[np.ndarray]]) -> Optional[np.ndarray]:
+    """One structured array of several, or None where one is missing."""
+    known = [it for it in arrays if it is not None]
+    return _one_of(known) if len(known) == len(arrays) else None
 
 
 def split(half: int, most: int) -> List[int]:
@@ -282,9 +404,10 @@ def middles(sizes: List[int]) -> List[int]:
     return ((ends[:-1] + ends[1:]) // 4).tolist()
 
 
-def tile_extent(rule) -> Tuple[int, int]:
+def tile_extent(rule: Rule) -> Tuple[int, int]:
     """How far a tile reaches in X and Y at most, rounded up."""
-    return tuple(math.ceil(side - 1e-9) for side in rule.extent)
+    wide, high = rule.extent
+    return math.ceil(wide - 1e-9), math.ceil(high - 1e-9)
 
 
 def usual_piece(rule: Rule, widest: Tuple[int, int], region: Tuple[int, int]) -> Tuple[int, int]:
@@ -293,7 +416,7 @@ def usual_piece(rule: Rule, widest: Tuple[int, int], region: Tuple[int, int]) ->
     is_large = 4 * region[0] * region[1] > MANY_TILES * rule.least_area()
     for tiles in (LARGER_TILES, USUAL_TILES)[not is_large :]:
         side = math.isqrt(int(tiles * rule.least_area())) // 2
-        half = tuple(min(4096, max(side, extent + 1)) for extent in widest)
+        half = min(4096, max(side, widest[0] + 1)), min(4096, max(side, widest[1] + 1))
         room = (2 * half[0] + 2 * widest[0]) * (2 * half[1] + 2 * widest[1]) / rule.least_area()
         if room <= MOST_TILES:
             return half

@@ -3,13 +3,14 @@
 If a turn by 1/m of a full turn keeps a vertex star, tile by tile, it also keeps the inflated star: cutting
 into children goes with each tile. So around the k times inflated vertex the tiling is kept in a circle
 |factor|^k times as large as the star's."""
-from typing import List, NamedTuple, Tuple
+from typing import Iterator, List, NamedTuple, Tuple
 
 import numpy as np
 
+from .arguments import Point
 from .engine import Frame
 from .patch import Patch
-from .program import address_text
+from .texts import address_text
 from .tiling import Tiling
 
 
@@ -18,7 +19,7 @@ class Place(NamedTuple):
     kept."""
 
     frame: Frame
-    at: Tuple[int, int, int, int]
+    at: Point
     radius: float
 
 
@@ -26,7 +27,7 @@ class NoPlace(Exception):
     """There is no such place; the message says why."""
 
 
-def kept_stars(patch: Patch, fold: int):
+def kept_stars(patch: Patch, fold: int) -> Iterator[int]:
     """The numbers of the vertex stars of a patch that a turn by 1/fold keeps."""
     names, _ = patch.star_labels()
     for number, star in enumerate(names):
@@ -43,7 +44,13 @@ def folds(patch: Patch) -> List[int]:
 
 
 def symmetric_place(
-    tiling: Tiling, fold: int, which: int, radius: float, frame: Frame, at, half=(40, 34)
+    tiling: Tiling,
+    fold: int,
+    which: int,
+    radius: float,
+    frame: Frame,
+    at: Point,
+    half: Tuple[int, int] = (40, 34),
 ) -> Place:
     """A place that a turn by 1/fold keeps at least so far. `which` counts the kinds of stars that do, from 0,
     by frequency."""
@@ -69,15 +76,15 @@ def symmetric_place(
 
 def inflated(tiling: Tiling, seed: int, address: str, vertex: int, reach: float, radius: float) -> Place:
     """Goes down to a child at the vertex until the circle is large enough, or the address has 60 digits."""
-    kind, _, digits = address.partition(":")
-    kind, digits = int(kind), [digit for digit in digits.split(",") if digit]
+    kind_text, _, digits_text = address.partition(":")
+    kind, digits = int(kind_text), [digit for digit in digits_text.split(",") if digit]
     growth = float(np.hypot(*tiling.ring.xy(tiling.rule.factor)))
     while reach < radius and len(digits) < 60:
         child, child_kind, vertex = tiling.rule.child_at(kind, vertex)
         digits.insert(0, f"{child}/{kind}")
         kind, reach = child_kind, reach * growth
-    at = tiling.rule.kinds[kind].vertices[vertex]
-    return Place(Frame(f"{kind}:" + ",".join(digits), seed), tuple(at.tolist()), reach)
+    a, b, c, d = tiling.rule.kinds[kind].vertices[vertex].tolist()
+    return Place(Frame(f"{kind}:" + ",".join(digits), seed), (a, b, c, d), reach)
 
 
 def star_radius(patch: Patch, vertex: int) -> float:
@@ -101,7 +108,7 @@ def distance(a: complex, b: complex) -> float:
     return abs(a + part * along)
 
 
-def kept_radius(patch: Patch, at, fold: int) -> float:
+def kept_radius(patch: Patch, at: Point, fold: int) -> float:
     """The radius around a point up to which a turn by 1/fold takes each tile of a patch, exactly, to one of
     its tiles of the same kind. It is never greater than the distance to the patch's nearest rim."""
     ring, centre = patch.rule.ring, np.array(at, np.int64)

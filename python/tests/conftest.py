@@ -1,4 +1,5 @@
-"""Where the tests find the program: as the package does; a test is skipped where there is none."""
+"""Where the tests find the library and the program: as the package does. A test is skipped where there is
+none, or fails if PAGNETUF_NO_SKIP is set."""
 import glob
 import os
 import re
@@ -21,6 +22,7 @@ BUILT_IN = {
 }
 
 
+SVG = "{http://www.w3.org/2000/svg}"
 DTD = "/usr/share/xml/w3c-sgml-lib/schema/dtd/REC-SVG11-*/svg11.dtd"
 
 
@@ -39,8 +41,17 @@ def rule_files():
     return sorted(name for name in os.listdir(RULES) if name.endswith(".toml"))
 
 
+@pytest.hookimpl(hookwrapper=True)
+def pytest_runtest_makereport(item, call):
+    """Where nothing may be skipped, what is skipped has failed."""
+    report = (yield).get_result()
+    if report.skipped and os.environ.get("PAGNETUF_NO_SKIP") and not hasattr(report, "wasxfail"):
+        report.outcome, report.longrepr = "failed", f"{item.nodeid} was skipped: {report.longrepr}"
+
+
 @pytest.fixture(scope="session")
 def program():
+    """The path of the program."""
     from pagnetuf import NoEngine, find_program
 
     try:
@@ -49,9 +60,44 @@ def program():
         pytest.skip(str(missing))
 
 
+@pytest.fixture(scope="session")
+def library():
+    """The engine over the library."""
+    from pagnetuf import LibraryEngine, NoEngine
+
+    try:
+        return LibraryEngine()
+    except NoEngine as missing:
+        pytest.skip(str(missing))
+
+
 @pytest.fixture
-def tiling(program):
+def tiling(library):
     """Makes the tiling of a name or of a file of rules/."""
     from pagnetuf import Tiling
 
     return lambda name: Tiling(name) if name in BUILT_IN else Tiling.from_file(os.path.join(RULES, name))
+
+
+@pytest.fixture
+def pagnetuf(library):
+    """Calls a command, and gives its status and both streams."""
+
+    def call(*words):
+        ran = subprocess.run(
+            [sys.executable, "-m", "pagnetuf", *map(str, words)],
+            capture_output=True,
+            text=True,
+            check=False,
+            env=environment_of(),
+        )
+        assert "Traceback" not in ran.stderr
+        return ran.returncode, ran.stdout, ran.stderr
+
+    return call
+
+
+def environment_of(**more):
+    """The environment in which the commands find the package, and do without any program."""
+    path = os.pathsep.join([os.path.join(TOP, "python"), *filter(None, [os.environ.get("PYTHONPATH")])])
+    return {**os.environ, "PYTHONPATH": path, "TILING_PROGRAM": "/none", **more}

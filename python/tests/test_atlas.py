@@ -4,12 +4,12 @@ import os
 import re
 import xml.etree.ElementTree as ElementTree
 
+import numpy as np
 import pytest
 from browser import browser
-from conftest import BUILT_IN, RULES, rule_files
+from conftest import BUILT_IN, RULES, SVG, rule_files
 from pagnetuf.commands.atlas import page, shares, stars
 from pagnetuf.picture import Colours
-from test_commands import SVG, pagnetuf  # noqa: F401
 
 PHI = (1 + math.sqrt(5)) / 2
 
@@ -33,6 +33,31 @@ def test_shares_are_those_of_the_literature(tiling):
     for name, first in (("p3", 1 / PHI**2), ("p2", 1 / PHI)):
         share = shares(tiling(name).rule)
         assert min(abs(share[:2].sum() - it) for it in (first, 1 - first)) < 1e-9
+
+
+def test_shares_settle_where_the_matrix_permutes(tiling):
+    """Rudin-Shapiro's squares: the matrix has eigenvalues of one size, and yet the shares have one limit,
+    each kind's own share of the deep supertiles on average."""
+    rule = tiling("rudin_shapiro_squares.toml").rule
+    count, total = np.zeros(len(rule.kinds)), np.zeros(len(rule.kinds))
+    count[0] = 1
+    for depth in range(60):
+        count = sum(
+            size * np.bincount(kind.children[:, 0], minlength=len(count))
+            for size, kind in zip(count, rule.kinds)
+        )
+        count = count / count.sum()
+        total += count if depth >= 20 else 0
+    assert np.allclose(shares(rule), total / total.sum(), atol=1e-6)
+
+
+def test_shares_of_stars_are_those_of_inner_vertices(tiling):
+    window = tiling("p3").window(half=(40, 30)).whole()
+    text = stars(window, Colours(window.rule))
+    counts = window.stars()
+    told = [float(it) for it in re.findall(r"([\d.]+) %, \d+ tiles", text)]
+    assert told == pytest.approx([100 * it / sum(counts.values()) for it in counts.values()], abs=0.006)
+    assert f"around {sum(counts.values())} vertices" in text
 
 
 def test_an_inflated_prototile_is_its_children(tiling):
@@ -101,7 +126,7 @@ def test_nothing_overlaps(tiling, tmp_path, wide):
         driver.quit()
 
 
-def test_the_command(pagnetuf, tmp_path):  # noqa: F811
+def test_the_command(pagnetuf, tmp_path):
     status, out, _ = pagnetuf("atlas", os.path.join(RULES, "chair.toml"))
     assert status == 0 and "<h1>chair</h1>" in out and "rules/chair.toml" in out
     status, out, _ = pagnetuf("atlas", "p3", "--out", tmp_path / "p3.html")

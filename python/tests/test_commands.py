@@ -2,35 +2,16 @@
 import json
 import os
 import re
+import shlex
 import subprocess
 import sys
 import xml.etree.ElementTree as ElementTree
 
 import numpy as np
 import pytest
-from conftest import BUILT_IN, RULES, TOP
+from conftest import BUILT_IN, RULES, SVG, TOP, environment_of
+from pagnetuf import Patch
 from pagnetuf.commands.command_line import COMMANDS
-
-SVG = "{http://www.w3.org/2000/svg}"
-
-
-@pytest.fixture
-def pagnetuf(program):
-    """Calls a command, and gives its status and both streams."""
-
-    def call(*words):
-        environment = {**os.environ, "TILING_PROGRAM": program, "PYTHONPATH": os.path.join(TOP, "python")}
-        ran = subprocess.run(
-            [sys.executable, "-m", "pagnetuf", *map(str, words)],
-            capture_output=True,
-            text=True,
-            check=False,
-            env=environment,
-        )
-        assert "Traceback" not in ran.stderr
-        return ran.returncode, ran.stdout, ran.stderr
-
-    return call
 
 
 @pytest.mark.parametrize("name", COMMANDS)
@@ -47,8 +28,11 @@ def test_no_words_print_the_usage(pagnetuf):
 
 
 def test_the_version(pagnetuf):
+    """It stands in one place: that of the package."""
+    with open(os.path.join(TOP, "python", "pagnetuf", "__init__.py"), encoding="utf-8") as file:
+        version = re.search(r'^__version__ = "(.*)"$', file.read(), re.M)[1]
     with open(os.path.join(TOP, "python", "pyproject.toml"), encoding="utf-8") as file:
-        version = re.search(r'^version = "(.*)"$', file.read(), re.M)[1]
+        assert version not in file.read()
     assert pagnetuf("--version") == (0, f"pagnetuf {version}\n", "")
 
 
@@ -67,14 +51,15 @@ def test_a_file_that_cannot_be_written(pagnetuf, tmp_path, name):
 @pytest.mark.parametrize(
     "end, cause", [("> /dev/full", "standard output can't be written"), (">&-", "standard output is closed")]
 )
-def test_an_output_that_takes_nothing(program, name, end, cause):
-    environment = {**os.environ, "TILING_PROGRAM": program, "PYTHONPATH": os.path.join(TOP, "python")}
+def test_an_output_that_takes_nothing(library, name, end, cause):
     line = f'exec "{sys.executable}" -m pagnetuf {name} p3 {end}'
-    ran = subprocess.run(["sh", "-c", line], stderr=subprocess.PIPE, text=True, check=False, env=environment)
+    ran = subprocess.run(
+        ["sh", "-c", line], stderr=subprocess.PIPE, text=True, check=False, env=environment_of()
+    )
     assert ran.returncode == 1 and cause in ran.stderr.splitlines()[-1] and "Traceback" not in ran.stderr
 
 
-def test_a_closed_pipe_ends_without_a_word(program):
+def test_a_closed_pipe_ends_without_a_word(library):
     for words in (
         ["board", "p3", "--half", "100,80"],
         ["poster", "p3"],
@@ -83,13 +68,12 @@ def test_a_closed_pipe_ends_without_a_word(program):
     ):
         reader, writer = os.pipe()
         os.close(reader)
-        environment = {**os.environ, "TILING_PROGRAM": program, "PYTHONPATH": os.path.join(TOP, "python")}
         ran = subprocess.run(
             [sys.executable, "-m", "pagnetuf", *words],
             stdout=writer,
             stderr=subprocess.PIPE,
             check=False,
-            env=environment,
+            env=environment_of(),
         )
         os.close(writer)
         told = ran.stderr.decode().splitlines()
@@ -105,6 +89,7 @@ def test_a_closed_pipe_ends_without_a_word(program):
         (("board", "p3", "--half", "4000,4000"), 7, "7 TooManyTiles"),
         (("board", "p3", "--half", "0,1"), 2, "0,1"),
         (("board", "p3", "--to", "npz"), 1, "--out"),
+        (("board", "p3", "--to", "csv"), 1, "--out"),
         (("board", os.path.join(RULES, "README.md")), 3, "3 RuleRefused"),
     ],
 )
@@ -158,29 +143,189 @@ def test_a_board_of_more_tiles_than_a_window(pagnetuf, monkeypatch, tiling, word
     several = board.in_windows(t, frame, box, not words)
     motions = [sorted(zip(it.kinds, it.turns, map(tuple, it.shifts.tolist()))) for it in (one, several)]
     assert motions[0] == motions[1]
-    status, out, _ = pagnetuf("board", "p3", "--tiles", "50000", "--to", "csv", *words)
-    assert status == 0 and out.count("\ntile,") == 2 and out.count("\n") > 140_000
+    status, out, _ = pagnetuf("board", "p3", "--tiles", "50000", "--shape", "nearest", *words)
+    assert status == 0 and len(json.loads(out)["tiles"]) == 50_000
 
 
-def test_board_as_csv_svg_and_arrays(pagnetuf, tmp_path):
-    _, out, _ = pagnetuf("board", "p3", "--half", "6,5", "--to", "csv")
-    vertices, tiles, pairs = (part.splitlines() for part in out.split("\n\n"))
-    _, text, _ = pagnetuf("board", "p3", "--half", "6,5")
-    board = json.loads(text)
-    assert len(tiles) - 1 == len(board["tiles"]) == 68 and len(vertices) - 1 == len(board["vertices"])
-    assert 2 * (len(pairs) - 1) == sum(
-        near is not None for tile in board["tiles"] for near in tile["neighbours"]
-    )
-    _, picture, _ = pagnetuf("board", "p3", "--half", "6,5", "--to", "svg")
-    assert [it.get("id") for it in ElementTree.fromstring(picture).iter(SVG + "polygon")] == [
-        f"tile{i}" for i in range(68)
+SCHEMA = os.path.join(TOP, "python", "pagnetuf", "board.schema.json")
+BOARDS = [
+    ("p3", "--tiles", 60),
+    ("p3", "--half", "6,5", "--halves"),
+    ("chair", "--tiles", 12, "--shape", "rectangle"),
+    (os.path.join(RULES, "penrose_p1.toml"), "--tiles", 30, "--at", "-3,1,0,0", "--seed", 7),
+    ("ab", "--half", "1,1", "--addr", "1:"),
+]
+
+
+@pytest.mark.parametrize("words", BOARDS)
+def test_a_board_keeps_its_schema(pagnetuf, words):
+    """And the command that it names makes it again."""
+    jsonschema = pytest.importorskip("jsonschema")
+    with open(SCHEMA, encoding="utf-8") as file:
+        schema = json.load(file)
+    jsonschema.Draft7Validator.check_schema(schema)
+    status, out, _ = pagnetuf("board", *words)
+    board = json.loads(out)
+    jsonschema.validate(board, schema)
+    first, *again = shlex.split(board["made_by"])
+    assert status == 0 and first == "pagnetuf" and pagnetuf(*again)[1] == out
+    for spoilt in ({"format": 2}, {"order": 5}, {"tiles": [{}]}, {"more": 1}):
+        with pytest.raises(jsonschema.ValidationError):
+            jsonschema.validate({**board, **spoilt}, schema)
+
+
+def board_of_csv(folder):
+    """The content of the six files, as JSON has it."""
+    pandas = pytest.importorskip("pandas")
+    read = {
+        name: pandas.read_csv(folder / f"b_{name}.csv", dtype=str, keep_default_na=False).to_dict("records")
+        for name in ("board", "tiles", "vertices", "edges", "rim", "stars")
+    }
+    board = {row["name"]: json.loads(row["value"]) for row in read.pop("board")}
+    lists = {"shift", "corners", "neighbours", "backs", "exact", "vertices", "tiles", "numbers"}
+
+    def value(name, text):
+        if name in lists:
+            return [value("", it) for it in text.split()]
+        if "/" in text and name != "address":
+            return [int(it) for it in text.split("/")]
+        return (
+            None
+            if text == "-"
+            else float(text)
+            if name in "xy" and name
+            else text
+            if name == "address"
+            else int(text)
+        )
+
+    rows = {
+        name: [{key: value(key, it) for key, it in row.items()} for row in table]
+        for name, table in read.items()
+    }
+    return {**board, **rows}
+
+
+def board_of_arrays(path):
+    """The content of the arrays, as JSON has it."""
+    found = np.load(path)
+    board = json.loads(str(found["head"]))
+
+    def cut(name, lengths, ending=None):
+        return (
+            [part.tolist() for part in np.split(found[name], np.cumsum(found[lengths])[:-1])]
+            if len(found[lengths])
+            else []
+        )
+
+    def known(numbers):
+        return [None if it < 0 else it for it in numbers]
+
+    counts = found["counts"].tolist()
+    columns = [found[name].tolist() for name in ("corners", "neighbours", "backs")]
+    named = ("kind", "turn", "shift", "address", "corners", "neighbours", "backs")
+    tiles = [
+        dict(
+            zip(
+                ("id", *named),
+                (i, kind, turn, shift, address, *(known(part[i][: counts[i]]) for part in columns)),
+            )
+        )
+        for i, (kind, turn, shift, address) in enumerate(
+            zip(*(found[name].tolist() for name in ("kinds", "turns", "shifts", "addresses")))
+        )
     ]
-    status, out, _ = pagnetuf("board", "p3", "--half", "6,5", "--to", "npz", "--out", tmp_path / "board.npz")
-    found = np.load(tmp_path / "board.npz")
-    assert (
-        status == 0 and not out and found["corners"].tolist() == [tile["corners"] for tile in board["tiles"]]
-    )
-    assert np.allclose(found["xy"], [[it["x"], it["y"]] for it in board["vertices"]])
+    vertices = [
+        {"id": i, "x": x, "y": y, "exact": exact, "star": star if star >= 0 else None}
+        for i, ((x, y), exact, star) in enumerate(
+            zip(*(found[name].tolist() for name in ("points", "vertices", "vertex_stars")))
+        )
+    ]
+    edges = [
+        {"id": i, "vertices": ends, "tiles": known(sides[:2]), "numbers": known(sides[2:])}
+        for i, (ends, sides) in enumerate(zip(found["edges"].tolist(), found["sides"].tolist()))
+    ]
+    rim = [{"id": i, "vertices": loop} for i, loop in enumerate(cut("rim", "rim_lengths"))]
+    stars = [{"id": i, "tiles": star} for i, star in enumerate(cut("stars", "star_lengths"))]
+    return {**board, "tiles": tiles, "vertices": vertices, "edges": edges, "rim": rim, "stars": stars}
+
+
+@pytest.mark.parametrize("words", BOARDS)
+def test_json_csv_and_arrays_hold_the_same(pagnetuf, tmp_path, words):
+    board = json.loads(pagnetuf("board", *words)[1])
+    assert pagnetuf("board", *words, "--to", "csv", "--out", tmp_path / "b")[0] == 0
+    assert pagnetuf("board", *words, "--to", "npz", "--out", tmp_path / "b.npz")[0] == 0
+    assert board_of_csv(tmp_path) == board == board_of_arrays(tmp_path / "b.npz")
+    names = sorted(os.listdir(tmp_path))
+    assert names == [
+        "b.npz",
+        *(f"b_{name}.csv" for name in ("board", "edges", "rim", "stars", "tiles", "vertices")),
+    ]
+
+
+@pytest.mark.parametrize("words", BOARDS)
+def test_a_board_is_the_patch(pagnetuf, tmp_path, words):
+    """Each number of it, against the patch that the arrays make."""
+    board = json.loads(pagnetuf("board", *words)[1])
+    pagnetuf("board", *words, "--to", "npz", "--out", tmp_path / "b.npz")
+    patch = Patch.from_npz(tmp_path / "b.npz")
+    names, numbers = patch.star_labels()
+    assert [[tuple(pair) for pair in star["tiles"]] for star in board["stars"]] == [
+        list(star) for star in names
+    ]
+    assert [-1 if it["star"] is None else it["star"] for it in board["vertices"]] == numbers.tolist()
+    assert np.allclose([[it["x"], it["y"]] for it in board["vertices"]], patch.rule.ring.xy(patch.vertices()))
+    assert [it["exact"] for it in board["vertices"]] == patch.vertices().tolist()
+    assert [it["address"] for it in board["tiles"]] == patch.address_texts()
+    tiles, sides = board["tiles"], {}
+    for tile in tiles:
+        for i, start in enumerate(tile["corners"]):
+            sides[start, tile["corners"][(i + 1) % len(tile["corners"])]] = tile["id"], i
+    for tile in tiles:
+        for i, (near, back) in enumerate(zip(tile["neighbours"], tile["backs"])):
+            start, end = tile["corners"][i], tile["corners"][(i + 1) % len(tile["corners"])]
+            assert sides.get((end, start), (None, None)) == (near, back)
+    assert len(board["edges"]) == len({frozenset(side) for side in sides})
+    for edge in board["edges"]:
+        a, b = edge["vertices"]
+        assert a < b
+        both = [sides.get(side, (None, None)) for side in ((a, b), (b, a))]
+        assert [edge["tiles"], edge["numbers"]] == [list(it) for it in zip(*both)]
+    rim = {
+        step
+        for loop in board["rim"]
+        for step in zip(loop["vertices"], loop["vertices"][1:] + loop["vertices"][:1])
+    }
+    assert rim == {side for side in sides if side[::-1] not in sides}
+
+
+@pytest.mark.parametrize("name", ["p3", "p2", "ab", "chair", "halfhex"])
+@pytest.mark.parametrize("shape", ["round", "rectangle"])
+def test_a_smooth_board_has_no_thorns(pagnetuf, name, shape):
+    """Each tile shares two edges or more."""
+    for count in (12, 60):
+        board = json.loads(pagnetuf("board", name, "--tiles", count, "--shape", shape)[1])
+        assert len(board["tiles"]) == count and len(board["rim"]) == 1
+        shared = [sum(near is not None for near in tile["neighbours"]) for tile in board["tiles"]]
+        assert min(shared) > 1
+
+
+def test_a_board_as_a_picture(pagnetuf):
+    status, picture, _ = pagnetuf("board", "p3", "--half", "6,5", "--to", "svg", "--by", "neighbours")
+    tiles = list(ElementTree.fromstring(picture).iter(SVG + "polygon"))
+    assert status == 0 and [it.get("id") for it in tiles] == [f"tile{i}" for i in range(68)]
+    near = [[int(it) for it in tile.get("data-near").split() if it != "-"] for tile in tiles]
+    looks = [tile.get("class").split()[-1] for tile in tiles]
+    assert len(set(looks)) == 3 and all(looks[i] != looks[j] for i, row in enumerate(near) for j in row)
+
+
+def test_a_file_is_there_only_when_it_is_whole(pagnetuf, tmp_path):
+    path = tmp_path / "board.json"
+    path.write_text("old")
+    assert pagnetuf("board", "p3", "--addr", "9:", "--out", path)[0] == 4
+    assert path.read_text() == "old" and os.listdir(tmp_path) == ["board.json"]
+    assert pagnetuf("board", "p3", "--tiles", 3, "--out", path)[0] == 0
+    assert len(json.loads(path.read_text())["tiles"]) == 3 and os.listdir(tmp_path) == ["board.json"]
 
 
 def test_a_rule_of_the_library_by_its_name(pagnetuf, tmp_path):

@@ -3,7 +3,6 @@ import os
 import pickle
 import random
 import subprocess
-import sys
 from concurrent.futures import ProcessPoolExecutor, ThreadPoolExecutor
 
 import numpy as np
@@ -13,19 +12,23 @@ from pagnetuf import (
     BadAddress,
     BadListing,
     BadWords,
-    call,
     LibraryEngine,
+    NoEdge,
     NoEngine,
+    NoVertex,
+    Outside,
     Patch,
-    places,
     ProgramEngine,
     Refusal,
     Tiling,
+    TooManyTiles,
+    call,
+    places,
     usual_engine,
 )
 from pagnetuf.engine import ADDRESS, TILE, Box, Frame
 from pagnetuf.library import FRAME, WINDOW
-from pagnetuf.program import address_texts as theirs_texts
+from pagnetuf.texts import address_texts as theirs_texts
 
 ADDRESSES = (
     "",
@@ -49,15 +52,6 @@ ADDRESSES = (
     "0:" + ",".join(["0/0"] * 65),
     "0:" + ",".join(["1/0"] * 40),
 )
-
-
-@pytest.fixture(scope="session")
-def library(program):
-    """The engine over the library, with the program for the rest."""
-    try:
-        return LibraryEngine(program=program)
-    except NoEngine as missing:
-        pytest.skip(str(missing))
 
 
 @pytest.fixture(params=BUILT_IN)
@@ -288,10 +282,10 @@ def test_stars_walks_and_pairs(both):
         assert answer(ours.walk, Frame(), path, grow) == answer(theirs.walk, Frame(), path, grow)
 
 
-def test_the_rest_is_the_programs(both):
+def test_the_rest_is_the_same(both):
     ours, theirs = both
     base = theirs.window(half=(6, 6)).address(3)
-    for call in (
+    for ask in (
         lambda t: t.star(base, 0, 7),
         lambda t: t.walk(base, [0, 1, 0, 2], 7),
         lambda t: t.pair(base, base),
@@ -301,13 +295,28 @@ def test_the_rest_is_the_programs(both):
         lambda t: t.locate((1, 1, 0, 0)).address_texts(),
         lambda t: [piece.address_texts() for piece in t.sheet((30, 30), piece=(9, 11), whole=True)],
     ):
-        assert answer(call, ours) == answer(call, theirs)
+        assert answer(ask, ours) == answer(ask, theirs)
+
+
+def test_more_questions_than_one_script_of_the_program_has(program, library):
+    """The program takes scripts of a mebibyte; 60,000 questions are several."""
+    ours, theirs = Tiling("chair", library), Tiling("chair", ProgramEngine(program))
+    texts = ours.window(half=(60, 60)).address_texts()
+    texts = (texts * (60_000 // len(texts) + 1))[:60_000]
+    edges = np.arange(len(texts)) % 9
+    calls, ask = [], theirs.machine.engine.call
+    theirs.machine.engine.call = lambda *words: calls.append(words) or ask(*words)
+    mine, yours = ours.neighbour_all(texts, edges), theirs.neighbour_all(texts[:300], edges[:300])
+    calls.clear()
+    assert mine[0][:300] == yours[0] and (mine[1][:300] == yours[1]).all()
+    inside = np.flatnonzero(mine[1][:, 1] == 0)
+    some = [texts[i] for i in inside]
+    there, numbers = theirs.neighbour_all(some, edges[inside])
+    assert there == [mine[0][i] for i in inside] and not numbers[:, 1].any() and 1 < len(calls) < 9
 
 
 def test_lists_of_tiles_of_any_rule_in_any_order(library):
     t = Tiling.from_file(os.path.join(RULES, "sphinx.toml"), library)
-    if not t.machine.library.verify:
-        pytest.skip("a library without tiling_verify")
     window = t.window((3, 1, 0, 0), (6, 5), 42)
     asked = dict(at=(3, 1, 0, 0), half=(6, 5), seed=42)
     shuffled = np.random.default_rng(7).permutation(len(window))
@@ -346,7 +355,7 @@ def test_rule_files(library, program, name):
         window = Frame("0:", 7), Box((3, 1, 0, 0), (20, 8)), glue
         assert same(answer(ours.machine.cover, *window), answer(theirs.machine.cover, *window))
     base = theirs.window(half=(6, 6), seed=7).address(3)
-    for call in (
+    for ask in (
         lambda t: t.place(base),
         lambda t: t.neighbour(base, 0),
         lambda t: t.neighbour(base, 99),
@@ -354,8 +363,8 @@ def test_rule_files(library, program, name):
         lambda t: t.walk(base, [0, 1, 0, 2], 7),
         lambda t: pickle.loads(pickle.dumps(t)).place("0:"),
     ):
-        assert answer(call, ours) == answer(call, theirs)
-    assert ours.pair(base, base) == "same"  # (the program pairs tiles of built-in rules alone)
+        assert answer(ask, ours) == answer(ask, theirs)
+    assert ours.pair(base, base).relation == "same"  # (the program pairs tiles of built-in rules alone)
 
 
 @pytest.mark.parametrize(
@@ -374,7 +383,7 @@ def test_refused_rule_files(library, program, data):
 def test_it_can_be_pickled_and_used_by_many(library):
     tiling = Tiling("p3", library)
     again = pickle.loads(pickle.dumps(tiling))
-    assert again.machine.engine.library.path == library.library.path
+    assert again.machine.library.path == library.library.path and again == tiling
     wanted = len(tiling.window(half=(90, 70)))
     for kind in (ThreadPoolExecutor, ProcessPoolExecutor):
         with kind(3) as executor:
@@ -395,16 +404,29 @@ def test_one_machine_for_many_threads(library):
     assert found == {wanted}
 
 
-def test_without_a_program(library, tmp_path):
-    engine = LibraryEngine(library.library.path, str(tmp_path / "none"))
-    tiling = Tiling("p3", engine)
-    assert len(tiling.window(half=(20, 12))) == 760 and tiling.place("2:1/0,0/0").turn == 9
-    assert len(tiling.star("0:", 0)) > 1
-    with pytest.raises(NoEngine):
-        tiling.common("0:", "0:")
-    with pytest.raises(BadAddress) as refused:
-        tiling.place("9:")
-    assert refused.value.line == "4 BadAddress"
+def test_without_a_program(library, monkeypatch, tmp_path):
+    """The package talks to the library alone: no process is started, and refusals have their fields."""
+    monkeypatch.setenv("TILING_PROGRAM", str(tmp_path / "none"))
+    monkeypatch.setattr(subprocess, "run", None)
+    monkeypatch.setattr(subprocess, "Popen", None)
+    tiling = Tiling("p3", library)
+    window = tiling.window(half=(20, 12))
+    assert len(window) == 760 and tiling.place("2:1/0,0/0").turn == 9 and len(tiling.star("0:", 0)) > 1
+    assert tiling.common("0:", "0:") == 0 and tiling.verify(window.listing(), half=(20, 12)) == 760
+    assert Tiling.from_file(os.path.join(RULES, "sphinx.toml")).window().whole().stars()
+    for error, fields, ask in (
+        (BadAddress, ("UnknownKind", "0"), lambda: tiling.place("9:")),
+        (NoEdge, ("9", "3"), lambda: tiling.neighbour("2:1/0,0/0", 9)),
+        (Outside, ("1", "0"), lambda: tiling.neighbour("2:1/0,0/0", 1)),
+        (NoVertex, ("3", "3"), lambda: tiling.star("0:", 3)),
+        (TooManyTiles, (), lambda: tiling.window(half=(4000, 4000))),
+        (BadAddress, ("BadText", "0"), lambda: tiling.pair("x", "0:")),
+        (BadAddress, ("UnknownKind", "0"), lambda: tiling.verify(window, addr="9:")),
+        (BadWords, ("4",), lambda: tiling.window(half=(0, 1))),
+    ):
+        with pytest.raises(error) as refused:
+            ask()
+        assert refused.value.fields == fields or error is BadWords
 
 
 def test_which_library(library, monkeypatch, tmp_path):
@@ -412,7 +434,10 @@ def test_which_library(library, monkeypatch, tmp_path):
     monkeypatch.setenv("TILING_LIBRARY", path)
     assert usual_engine().library.path == path
     monkeypatch.setenv("TILING_LIBRARY", "")
-    assert places.library() is None and isinstance(usual_engine(), ProgramEngine)
+    monkeypatch.setattr(places, "LIBRARIES", ("none.so",))
+    for ask in (usual_engine, lambda: Tiling("p3"), lambda: call(["check", "rule=p3"])):
+        with pytest.raises(NoEngine, match="wheel.*--build.*TILING_LIBRARY"):
+            ask()
     monkeypatch.setenv("TILING_LIBRARY", str(tmp_path / "none.so"))
     with pytest.raises(NoEngine):
         usual_engine()
@@ -420,17 +445,6 @@ def test_which_library(library, monkeypatch, tmp_path):
         LibraryEngine(os.path.join(TOP, "README.md"))
     with pytest.raises(BadWords):
         LibraryEngine(path).machine("nonsense")
-
-
-def test_the_program_with_no_library(program):
-    """The commands give the same bytes over the library and over the program."""
-    if not places.library():
-        pytest.skip("there is no library")
-    words = [sys.executable, "-m", "pagnetuf", "board", "p3", "--tiles", "60"]
-    environment = {**os.environ, "TILING_PROGRAM": program, "PYTHONPATH": os.path.join(TOP, "python")}
-    both = [{**environment, "TILING_LIBRARY": library} for library in (places.library(), "")]
-    ours, theirs = (subprocess.run(words, env=it, capture_output=True, check=True).stdout for it in both)
-    assert ours == theirs
 
 
 CALLS = (
@@ -453,8 +467,6 @@ CALLS = (
 
 @pytest.mark.parametrize("words, given", CALLS)
 def test_the_command_is_called_in_the_process(library, program, words, given):
-    if not library.library.call:
-        pytest.skip("the library has no tiling_call")
     assert answer(library.call, words, given) == answer(ProgramEngine(program).call, words, given)
 
 

@@ -9,13 +9,12 @@ from collections import Counter
 
 import numpy as np
 import pytest
-from conftest import RULES, invalid
+from conftest import RULES, SVG, invalid
 from pagnetuf import Tiling
 from pagnetuf.engine import Frame
 from pagnetuf.picture import Colours
 from pagnetuf.strokes import strokes
 from pagnetuf.symmetry import kept_radius, symmetric_place
-from test_commands import SVG, pagnetuf  # noqa: F401
 
 LABEL = "{http://www.inkscape.org/namespaces/inkscape}label"
 
@@ -60,7 +59,7 @@ def test_strokes_are_as_few_as_can_be(seed):
     assert len(trails) == sum(max(1, odd[it] // 2) for it in {root(v) for v in part})
 
 
-def test_a_poster_in_layers(pagnetuf):  # noqa: F811
+def test_a_poster_in_layers(pagnetuf):
     status, text, err = pagnetuf(
         "poster", "p3", "--size", "200,140", "--colours", "#0b3954,#ff6663", "--line", "0.5,#ffffff"
     )
@@ -87,7 +86,7 @@ def test_a_poster_in_layers(pagnetuf):  # noqa: F811
 @pytest.mark.parametrize(
     "words", [(), ("--joined", "--by", "turn"), ("--by", "star", "--line", "0"), ("--cut",), ("--star", "5")]
 )
-def test_it_is_valid(pagnetuf, words):  # noqa: F811
+def test_it_is_valid(pagnetuf, words):
     _, text, _ = pagnetuf("poster", "p3", "--size", "150,100", *words)
     assert text.startswith("<svg ") and not invalid(text)
 
@@ -99,7 +98,7 @@ def test_a_picture_is_valid(tiling):
         assert not invalid(patch.to_svg()) and 'version="1.1"' not in patch.to_svg(ids=True)
 
 
-def test_the_usual_colours(pagnetuf, tiling):  # noqa: F811
+def test_the_usual_colours(pagnetuf, tiling):
     """Without --colours a poster has the colours of atlases and of the page to pan."""
     for by in ("kind", "turn"):
         _, text, _ = pagnetuf("poster", "p3", "--size", "200,140", "--by", by, "--line", "0")
@@ -108,7 +107,7 @@ def test_the_usual_colours(pagnetuf, tiling):  # noqa: F811
         assert len(found) > 1 and all(palette[int(name[4:])] == fill for name, fill in found.items())
 
 
-def test_joined_areas_are_those_of_the_tiles(pagnetuf):  # noqa: F811
+def test_joined_areas_are_those_of_the_tiles(pagnetuf):
     _, apart, _ = pagnetuf("poster", "p3", "--size", "200,140", "--line", "0")
     _, joined, _ = pagnetuf("poster", "p3", "--size", "200,140", "--line", "0", "--joined")
     (_, one), (_, other) = layers(apart), layers(joined)
@@ -121,7 +120,7 @@ def test_joined_areas_are_those_of_the_tiles(pagnetuf):  # noqa: F811
 
 
 @pytest.mark.parametrize("rule", ["p3", "ab", "chair", os.path.join(RULES, "sphinx.toml")])
-def test_cut_lines_are_on_the_page_and_come_once(pagnetuf, rule):  # noqa: F811
+def test_cut_lines_are_on_the_page_and_come_once(pagnetuf, rule):
     _, text, err = pagnetuf("poster", rule, "--size", "150,100", "--cut")
     _, found = layers(text)
     assert list(found) == ["cut", "frame"]
@@ -136,7 +135,7 @@ def test_cut_lines_are_on_the_page_and_come_once(pagnetuf, rule):  # noqa: F811
     assert len(lines) == sum(count % 2 for count in ends.values()) // 2
 
 
-def test_dxf_has_the_same_lines(pagnetuf, tmp_path):  # noqa: F811
+def test_dxf_has_the_same_lines(pagnetuf, tmp_path):
     _, text, _ = pagnetuf("poster", "ab", "--size", "150,100", "--cut")
     status, out, _ = pagnetuf(
         "poster", "ab", "--size", "150,100", "--cut", "--to", "dxf", "--out", tmp_path / "cut.dxf"
@@ -155,7 +154,48 @@ def test_dxf_has_the_same_lines(pagnetuf, tmp_path):  # noqa: F811
     lines = paths_of(layers(text)[1]["cut"])
     assert [name for name, _ in trails] == ["CUT"] * len(lines) + ["FRAME"]
     for line, (_, trail) in zip(lines, trails):
-        assert np.allclose(line, trail, atol=0.006)
+        assert np.allclose(line[: len(trail)], trail, atol=0.006)  # (a closed one ends where it begins)
+
+
+def test_dxf_as_ezdxf_reads_it(pagnetuf, tmp_path):
+    """No fault and no fix; the layers are in their table, the frame is closed, and the lines are the
+    page's."""
+    ezdxf = pytest.importorskip("ezdxf")
+    from ezdxf import recover
+
+    path = tmp_path / "cut.dxf"
+    _, _, err = pagnetuf("poster", "p3", "--size", "150,100", "--cut", "--to", "dxf", "--out", path)
+    document, auditor = recover.readfile(path)
+    assert not auditor.errors and not auditor.fixes and not ezdxf.readfile(path).audit().errors
+    assert document.layers.get("CUT").color == 1 and document.layers.get("FRAME").color == 5
+    assert document.header["$INSUNITS"] == 4
+    space = document.modelspace()
+    (frame,) = space.query('POLYLINE[layer=="FRAME"]')
+    corners = [tuple(it.dxf.location)[:2] for it in frame.vertices]
+    assert frame.is_closed and sorted(corners) == [(0, 0), (0, 100), (150, 0), (150, 100)]
+    cut = space.query('POLYLINE[layer=="CUT"]')
+    steps = []
+    for line in cut:
+        spots = [tuple(it.dxf.location)[:2] for it in line.vertices]
+        spots += spots[:1] if line.is_closed else []
+        steps += [frozenset(step) for step in zip(spots, spots[1:])]
+    assert len(cut) == int(re.search(r"(\d+) strokes", err)[1])
+    assert len(steps) == len(set(steps)) == int(re.search(r"(\d+) edges", err)[1])
+
+
+def test_edges_along_the_frame_are_not_cut(pagnetuf):
+    """Squares whose edges lie on the sides of the page: the frame has them."""
+    for tile in ("10", "0.7"):
+        side = float(tile)
+        size = f"{4 * side:g},{6 * side:g}"
+        _, text, err = pagnetuf("poster", "square_four", "--size", size, "--tile", tile, "--cut")
+        found = layers(text)[1]
+        spots = np.array([corner for trail in paths_of(found["cut"]) for corner in trail])
+        for trail in paths_of(found["cut"]):
+            for a, b in zip(trail, trail[1:]):
+                for axis, most in ((0, 4 * side), (1, 6 * side)):
+                    assert not (a[axis] == b[axis] and (a[axis] < 0.01 or a[axis] > most - 0.01))
+        assert spots.min() >= 0 and int(re.search(r"(\d+) edges", err)[1]) == 3 * 6 + 5 * 4
 
 
 @pytest.mark.parametrize("rule, fold", [("p3", 5), ("p2", 5), ("ab", 8), ("chair", 4)])
@@ -171,7 +211,7 @@ def test_places_of_symmetry(tiling, rule, fold):
         assert kept_radius(patch, tuple(np.array(place.at) + (1, 0, 0, 0)), fold) < 5
 
 
-def test_the_star_in_the_centre(pagnetuf):  # noqa: F811
+def test_the_star_in_the_centre(pagnetuf):
     status, text, err = pagnetuf("poster", "p3", "--size", "400,300", "--star", "5", "--line", "0")
     assert status == 0
     certain, compared = (
@@ -196,10 +236,10 @@ def test_long_paths_come_in_parts(tiling, monkeypatch):
     patch = t.window(half=page.half(t)).whole()
     words = ("poster", "p3", "--size", "200,140", "--tile", "5", "--joined")
     options = poster_options(words)
-    texts = [poster.poster_svg(patch, page, options)]
+    texts = ["".join(poster.poster_svg(patch, page, options))]
     for name, most in (("MOST_TEXT", 2000), ("MOST_CORNERS", 5), ("MOST_WHOLE", 100), ("MOST_PART", 90)):
         monkeypatch.setattr(poster, name, most)
-    texts.append(poster.poster_svg(patch, page, options))
+    texts.append("".join(poster.poster_svg(patch, page, options)))
     whole, parts = map(paths_by_layer, texts)
     assert {name: len(found) for name, found in whole.items()} == {"kind0": 1, "kind2": 1, "lines": 1}
     for name, found in parts.items():
@@ -238,17 +278,17 @@ def steps_of(texts):
         (("ab", "--star", "8,9"), "1 kind of vertex star is kept by a turn by 1/8; some are by 1/4, 1/2\n"),
         (("p3", "--to", "dxf"), "--cut"),
         (("p3", "--size", "10"), "10"),
-        (("p3", "--colours", "red"), "red"),
+        (("p3", "--colours", "rde"), "'rde' is no colour"),
         (("p3", "--line", "-1"), "line"),
         (("p3", "--size", "20000,20000", "--tile", "0.5"), "larger --tile"),
     ],
 )
-def test_troubles_are_told(pagnetuf, words, told):  # noqa: F811
+def test_troubles_are_told(pagnetuf, words, told):
     status, out, err = pagnetuf("poster", *words)
     assert status in (1, 2) and not out and told in err
 
 
-def test_more_tiles_than_a_window(pagnetuf, tmp_path):  # noqa: F811
+def test_more_tiles_than_a_window(pagnetuf, tmp_path):
     status, out, err = pagnetuf(
         "poster",
         "chair",
@@ -277,7 +317,7 @@ def test_more_tiles_than_a_window(pagnetuf, tmp_path):  # noqa: F811
         ("chromium", ["--headless=new", "--no-sandbox", "--disable-gpu", "--print-to-pdf=OUT", "IN"]),
     ],
 )
-def test_programs_open_and_print_it(pagnetuf, tmp_path, tool, words):  # noqa: F811
+def test_programs_open_and_print_it(pagnetuf, tmp_path, tool, words):
     if not shutil.which(tool):
         pytest.skip(f"there is no {tool}")
     source, sink = str(tmp_path / "a.svg"), str(tmp_path / "a.pdf")
@@ -308,3 +348,129 @@ def test_the_tiles_of_a_page_are_those_of_a_window(tiling):
     assert sorted(map(tuple, pieces.shifts.tolist())) == sorted(map(tuple, whole.shifts.tolist()))
     assert isinstance(t, Tiling) and (np.sort(pieces.vertices(), 0) == np.sort(whole.vertices(), 0)).all()
     assert len(pieces.edges()) == len(whole.edges())
+
+
+@pytest.mark.parametrize("rule, most", [("p3", 3), ("p2", 3), ("chair", 4), ("sphinx", 4)])
+def test_no_neighbours_are_alike(pagnetuf, rule, most):
+    """On the whole page, across the seams of windows too; and the same call gives the same colours."""
+    words = (
+        "poster",
+        rule,
+        "--size",
+        "500,400",
+        "--by",
+        "neighbours",
+        "--line",
+        "0",
+        "--colours",
+        "red,gold,navy,teal",
+    )
+    _, text, err = pagnetuf(*words)
+    assert pagnetuf(*words)[1] == text
+    sides, count = {}, 0
+    for name, group in layers(text)[1].items():
+        for loop in paths_of(group):
+            count += 1
+            for a, b in zip(loop, loop[1:] + loop[:1]):
+                sides.setdefault(frozenset((a, b)), []).append(name)
+    used = {name for both in sides.values() for name in both}
+    assert len(used) <= most and all(len(both) < 2 or both[0] != both[1] for both in sides.values())
+    assert max(map(len, sides.values())) == 2 and int(re.search(r"(\d+) tiles; ", err)[1]) == count
+    assert len(used) == 4 or f"{len(used)} of 4 colours are used" in err
+
+
+def test_a_colouring_over_the_seams_of_windows(tiling, monkeypatch):
+    from pagnetuf.commands import poster
+
+    t, page = tiling("p3"), poster.Page((300, 200), 5)
+    patch = poster.gathered(list(t.sheet(page.half(t), piece=(9, 8), whole=True, addresses=False)))
+    options = poster_options(("poster", "p3", "--by", "neighbours"))
+    found = poster.classes(patch, page, options).of
+    a, b = patch.adjacency()[:, :2].T
+    assert (found[a] != found[b]).all() and found.max() == 2
+
+
+@pytest.mark.parametrize("by", ["kind", "turn", "star", "ring"])
+def test_colours_that_keep_the_star(pagnetuf, by):
+    """A turn by 72° about the centre takes each tile to one of the same layer."""
+    words = ("--size", "300,300", "--star", "5", "--by", by, "--line", "0", "--colours", "red,gold,navy,teal")
+    _, text, _ = pagnetuf("poster", "p3", *words)
+    spots = {
+        name: np.array([np.mean(loop, 0) for loop in paths_of(group)])
+        for name, group in layers(text)[1].items()
+    }
+    spots = {name: it - (150, 150) for name, it in spots.items() if len(it)}
+    angle, tried = 2 * np.pi / 5, 0
+    for name, here in spots.items():
+        inner = here[np.hypot(*here.T) < 130]
+        turned = inner @ np.array([[np.cos(angle), np.sin(angle)], [-np.sin(angle), np.cos(angle)]])
+        tried += len(turned)
+        assert all(np.hypot(*(here - it).T).min() < 0.02 for it in turned), name
+    assert tried > 300 and "rim" not in "".join(spots)
+
+
+def test_notes_about_colours(pagnetuf):
+    for words, told in (
+        (
+            ("p3", "--colours", "red,gold,navy,teal"),
+            "2 of 4 colours are used: by kind this page has 2 layers; try --by turn",
+        ),
+        (("penrose_p1", "--colours", "red,gold"), "colours repeat"),
+        (("p3", "--colours", "red,gold"), None),
+        (("p3",), None),
+    ):
+        status, text, err = pagnetuf("poster", *words, "--size", "150,100")
+        assert status == 0 and (told in err if told else "colours" not in err)
+    _, text, _ = pagnetuf("poster", "p3", "--size", "100,80", "--colours", "sea", "--by", "star")
+    assert 'fill="#0b3954"' in text
+
+
+def test_the_rarest_star_at_a_corner(tiling):
+    """--by star: of the stars at its corners, a tile has the rarest."""
+    from pagnetuf.commands import poster
+
+    t, page = tiling("p3"), poster.Page((200, 140), 5)
+    patch = t.window(half=page.half(t)).whole()
+    found = poster.classes(patch, page, poster_options(("poster", "p3", "--by", "star")))
+    names, labels = patch.star_labels()
+    shares = [patch.stars()[name] for name in names]
+    for tile in np.flatnonzero(poster.within(patch, page)).tolist():
+        stars = [labels[v] for v in patch.corners()[tile, : patch.counts[tile]] if labels[v] >= 0]
+        assert (
+            stars
+            and found.of[tile] == max(stars)
+            and shares[found.of[tile]] == min(shares[it] for it in stars)
+        )
+
+
+@pytest.mark.parametrize("rule, fold", [("p3", 5), ("ab", 8)])
+def test_the_certain_radius_is_kept(tiling, rule, fold):
+    """The promise of --star, tile by tile, in a window that is larger than the circle."""
+    t = tiling(rule)
+    for radius in (4, 9, 20):
+        place = symmetric_place(t, fold, 0, radius, Frame(), (0, 0, 0, 0))
+        side = int(2 * place.radius) + 6
+        window = t.window(place.at, (side, side), place.frame.seed, place.frame.base)
+        assert radius <= place.radius <= kept_radius(window, place.at, fold) + 1e-9
+
+
+def test_a_star_reaches_to_its_nearest_outer_edge(tiling):
+    """The radius of a star, against points along its outer edges."""
+    from pagnetuf.symmetry import star_radius
+
+    window = tiling("p3").window(half=(12, 10))
+    inner = np.flatnonzero(window.star_labels()[1] >= 0)
+    for vertex in inner[:40].tolist():
+        here, least = window.points()[vertex], np.inf
+        for tile in np.flatnonzero((window.corners() == vertex).any(1)):
+            loop = window.polygons()[tile]
+            for start, end in zip(loop, np.roll(loop, -1, 0)):
+                if np.hypot(*(start - here)) > 1e-9 and np.hypot(*(end - here)) > 1e-9:
+                    steps = start + np.linspace(0, 1, 2001)[:, None] * (end - start)
+                    least = min(least, np.hypot(*(steps - here).T).min())
+        assert star_radius(window, vertex) == pytest.approx(least, abs=1e-4)
+
+
+def test_several_processes_make_the_same_page(pagnetuf):
+    words = ("poster", "p3", "--size", "900,700", "--tile", "3", "--line", "0")
+    assert pagnetuf(*words)[1] == pagnetuf(*words, "--jobs", "2")[1]

@@ -1,12 +1,14 @@
 """Windows side by side have exactly the tiles of a window as large, each once."""
 import math
+import time
 from concurrent.futures import ProcessPoolExecutor, ThreadPoolExecutor
 
 import numpy as np
 import pytest
 from conftest import BUILT_IN, rule_files
 from pagnetuf.engine import Box
-from pagnetuf.sheet import RIGHT, UP, beyond, gathered, meeting, middles, split
+from pagnetuf.meeting import meeting
+from pagnetuf.sheet import RIGHT, UP, beyond, gathered, middles, split
 
 
 def lines(patch):
@@ -158,3 +160,142 @@ def test_usual_pieces_are_within_the_limit(tiling):
         piece = next(t.sheet((5000, 5000)))
         assert 1000 < len(piece) < 200_000, name
         assert isinstance(piece.shifts, np.ndarray)
+
+
+def test_what_is_inside_reaches_nowhere_out(tiling):
+    """Each point whose tile could reach out of a window counts as at its rim, however little it does."""
+    for name in ("p3", "ab", "sphinx.toml"):
+        t, box = tiling(name), Box((3, -1, 0, 0), (9, 8))
+        width = 2 if t.order in (4, 6) else 4
+        shifts = np.zeros((200_000, 4), np.int64)
+        shifts[:, :width] = np.random.default_rng(1).integers(-12, 13, (len(shifts), width))
+        away = np.abs(t.ring.steps @ (shifts - np.array(box.at)).T)
+        out = (away > (np.array(box.half) - t.rule.reach)[:, None]).any(0)
+        inside = np.setdiff1d(np.arange(len(shifts)), beyond(t.rule, shifts, box))
+        assert not out[inside].any() and 100 < len(inside)
+        near = out & (away < (np.array(box.half) - t.rule.reach)[:, None] + 0.01).all(0)
+        assert near.any() or width == 2
+
+
+def test_far_out_in_a_pool(tiling):
+    """Nothing is cut off on the way between processes."""
+    t, words = tiling("chair"), {
+        "half": (30, 30),
+        "at": (1_000_000, -1_000_000, 0, 0),
+        "piece": (20, 20),
+        "seed": 3,
+    }
+    alone = [it.tiles.tobytes() for it in t.sheet(**words)]
+    with ProcessPoolExecutor(2) as executor:
+        assert [it.tiles.tobytes() for it in t.sheet(**words, executor=executor)] == alone
+
+
+@pytest.mark.parametrize("name", ["p3", "ab", "chair", "sphinx.toml", "penrose_p1.toml"])
+@pytest.mark.parametrize("whole", [False, True])
+def test_each_vertex_and_edge_of_a_region_once(tiling, name, whole):
+    """They are those of a larger window that lie in the region, with its left and its lower side."""
+    t, at, half, piece = tiling(name), (3, -2, 0, 0), (26, 22), (11, 9)
+    large = t.window(at, (40, 36), 5)
+    large = large.whole() if whole else large
+    words = {"half": half, "at": at, "seed": 5, "piece": piece, "whole": whole}
+
+    def lie_inside(points, scale):
+        inside = np.ones(len(points), bool)
+        for along, side in zip(t.ring.scaled(points - scale * np.array(at)), half):
+            for row in (inside_side(t.ring, along, scale * side),):
+                inside &= row
+        return inside
+
+    vertices = [tuple(it) for part in t.sheet(**words, of="vertices") for it in part.tolist()]
+    wanted = large.vertices()[lie_inside(large.vertices(), 1)]
+    assert len(set(vertices)) == len(vertices) and set(vertices) == set(map(tuple, wanted.tolist()))
+    edges = [frozenset(map(tuple, it)) for part in t.sheet(**words, of="edges") for it in part.tolist()]
+    ends = large.vertices()[large.edges()]
+    ends = ends[lie_inside(ends.sum(1), 2)]
+    assert len(set(edges)) == len(edges) and set(edges) == {frozenset(map(tuple, it)) for it in ends.tolist()}
+
+
+def inside_side(ring, along, side):
+    """Which numbers are from -side up to side, by fractions."""
+    found = []
+    for p, q in along.tolist():
+        value = p + q * ring.surd
+        assert abs(abs(value) - side) > 1e-9 or q == 0 or abs(value - round(value)) > 1e-12
+        found.append(-side <= value < side if q else -side <= p < side)
+    return np.array(found, bool)
+
+
+def test_the_length_of_a_sheet_and_where_it_begins(tiling):
+    t, words = tiling("p3"), {"half": (46, 61), "piece": (20, 15)}
+    alone = [it.tiles.tobytes() for it in t.sheet(**words)]
+    assert len(t.sheet(**words)) == len(alone) == sum(len(t.sheet(**words, part=(i, 2))) for i in (0, 1))
+    for start in (0, 1, len(alone) - 1, len(alone)):
+        pieces = t.sheet(**words, start=start)
+        assert len(pieces) == len(alone) - start and [it.tiles.tobytes() for it in pieces] == alone[start:]
+        assert pieces.done == len(alone) - start
+    for start in (-1, len(alone) + 1):
+        with pytest.raises(ValueError, match="start is from 0"):
+            t.sheet(**words, start=start)
+
+
+class Failed(Exception):
+    """What `each` raises here."""
+
+
+def failing(piece):
+    if len(piece) % 7 == 3:
+        raise Failed("no")
+    return len(piece)
+
+
+def test_a_piece_that_fails_is_named(tiling):
+    t, words = tiling("p3"), {"half": (46, 61), "piece": (20, 15)}
+    bad = next(i for i, it in enumerate(t.sheet(**words)) if len(it) % 7 == 3)
+    with ProcessPoolExecutor(2) as executor:
+        for pool in (None, executor):
+            pieces = t.sheet(**words, executor=pool, each=failing)
+            with pytest.raises(Failed) as fault:
+                list(pieces)
+            told = " ".join(getattr(fault.value, "__notes__", map(str, fault.value.args)))
+            assert f"in piece {bad}" in told and f"start={bad}" in told and pieces.done == bad
+
+
+def test_stopping_cancels_what_waits(tiling):
+    """After a loop is left, nothing more is begun."""
+    t, begun = tiling("p3"), []
+
+    def each(piece):
+        begun.append(len(piece))
+        time.sleep(0.05)
+        return len(piece)
+
+    with ThreadPoolExecutor(1) as executor:
+        pieces = t.sheet((200, 160), piece=(20, 20), executor=executor, each=each, ahead=30)
+        next(pieces)
+        start = time.monotonic()
+        pieces.close()
+    assert time.monotonic() - start < 1 and len(begun) <= 4
+
+
+def test_a_region_beyond_reach_is_refused_at_the_call(tiling):
+    for half, at in (
+        ((1 << 22, 10), (0, 0, 0, 0)),
+        ((10, 1 << 22), (0, 0, 0, 0)),
+        ((4000, 10), ((1 << 20) - 10, 0, 0, 0)),
+    ):
+        with pytest.raises(ValueError, match="beyond"):
+            tiling("p3").sheet(half, at)
+    assert len(tiling("p3").sheet((10, 10), (1 << 20, 0, 0, 0))) == 1
+
+
+def test_progress_of_a_sheet(tiling, capsys, monkeypatch):
+    """On a terminal only; a line a second without tqdm."""
+    from pagnetuf import progress
+
+    t, words = tiling("p3"), {"half": (46, 61), "piece": (20, 15), "progress": True}
+    count = len(list(t.sheet(**words)))
+    assert not capsys.readouterr().err
+    monkeypatch.setattr(progress.sys.stderr, "isatty", lambda: True)
+    monkeypatch.setattr(progress, "tqdm_bar", lambda *_: None)
+    list(t.sheet(**words))
+    assert f"{count} of {count} windows" in capsys.readouterr().err

@@ -1,22 +1,24 @@
 """A page about a rule: its prototiles, how each is inflated and cut, its vertex stars with their shares, and
 a patch.
 
-  python3 -m pagnetuf atlas p3 --out p3.html
-  python3 -m pagnetuf atlas rules/sphinx.toml > sphinx.html
+  pagnetuf atlas p3 --out p3.html
+  pagnetuf atlas rules/sphinx.toml > sphinx.html
 
 The page is one file without scripts. Shares of kinds are the limit, from the rule's numbers; those of stars
 are counted in a window, of which the page says how large it is."""
+import argparse
 import os
-from typing import List, Tuple
+from typing import List, Optional, Sequence, Tuple
 
 import numpy as np
 
 from .. import places
 from ..patch import Patch
-from ..picture import Colours, escaped, number, numbers_by
-from ..rule import Rule
-from ..tiling import Tiling
-from .command_line import add_frame, add_rule, frame_of, tiling_of, write_text
+from ..picture import Colours, classes_by, colours_of
+from ..svg import attributes, element, escaped, number, points, root
+from ..rule import Kind, Rule
+from ..tiling import Tiling, Window
+from .command_line import add_frame, add_rule, frame_of, tiling_of, write_pieces
 
 STYLE = """body{font:16px/1.5 system-ui,sans-serif;color:#1c2a33;
 margin:2em auto;max-width:1000px;padding:0 16px}
@@ -31,30 +33,33 @@ svg{display:block;max-width:100%;height:auto}code{overflow-wrap:anywhere}"""
 HEAD = """<!DOCTYPE html>
 <html lang="en"><head><meta charset="utf-8">
 <meta name="viewport" content="width=device-width,initial-scale=1">"""
-LABELS = (
-    'text-anchor="middle" dominant-baseline="central" stroke="#fff" stroke-width="{}" paint-order="stroke" '
-    'fill="#111"'
-)
+LABELS = {
+    "text_anchor": "middle",
+    "dominant_baseline": "central",
+    "stroke": "#fff",
+    "paint_order": "stroke",
+    "fill": "#111",
+}
 LINE = 1.3  # pixels
 
 
-def add_words(parser):
+def add_words(parser: argparse.ArgumentParser) -> None:
     add_rule(parser)
     add_frame(parser)
     parser.add_argument("--out", metavar="FILE", help="a file instead of standard output")
 
 
-def run(options):
+def run(options: argparse.Namespace) -> None:
     tiling = tiling_of(options.rule)
     frame = frame_of(options)
     counted = tiling.window(options.at, (80, 60), frame.seed, frame.base).whole()
     shown = tiling.window(options.at, (28, int(9 / tiling.ring.sine)), frame.seed, frame.base)
-    write_text(page(tiling, counted, shown), options.out)
+    write_pieces([page(tiling, counted, shown)], options.out)
 
 
-def page(tiling: Tiling, counted: Patch, shown) -> str:
+def page(tiling: Tiling, counted: Patch, shown: Window) -> str:
     name, rule = escaped(title_of(tiling)), tiling.rule
-    colours = Colours(rule)
+    colours = colours_of(rule)
     parts = {
         "Prototiles": [prototiles(rule, colours)],
         "Inflation": [
@@ -131,7 +136,7 @@ def prototiles(rule: Rule, colours: Colours) -> str:
     return row("prototiles", [drawn(it, colours, scale) for it in alone], captions)
 
 
-def polygon_patch(rule: Rule, motions) -> Patch:
+def polygon_patch(rule: Rule, motions: Sequence[Tuple[int, int, np.ndarray]]) -> Patch:
     """A patch of tiles that are named by their motions alone; its addresses number them as children."""
     from ..engine import ADDRESS, TILE
 
@@ -153,7 +158,7 @@ def inflations(rule: Rule, colours: Colours) -> str:
     return row("inflations", [drawn(it, colours, scale, True) for it in cut], captions)
 
 
-def children_text(entry) -> str:
+def children_text(entry: Kind) -> str:
     kinds, counts = np.unique(entry.children[:, 0], return_counts=True)
     parts = [f"{count} of kind {kind}" for kind, count in zip(kinds.tolist(), counts.tolist())]
     return " and ".join([*([", ".join(parts[:-1])] if parts[1:] else []), parts[-1]])
@@ -185,7 +190,7 @@ def stars(patch: Patch, colours: Colours) -> str:
 
 def look_of(star: Patch, spot: np.ndarray, colours: Colours) -> tuple:
     """What a star looks like, however it is turned: the colours of its tiles, and exactly where they lie."""
-    ring, fills = star.rule.ring, fills_of(star, colours)
+    ring, fills = star.rule.ring, tile_fills(star, colours)
     looks = []
     for turn in range(ring.order):
         tiles = ring.turn(star.outlines() - spot, turn).tolist()
@@ -193,12 +198,12 @@ def look_of(star: Patch, spot: np.ndarray, colours: Colours) -> tuple:
     return tuple(min(looks))
 
 
-def fills_of(patch: Patch, colours: Colours) -> List[str]:
+def tile_fills(patch: Patch, colours: Colours) -> List[str]:
     """The colour of each tile."""
-    return [colours.by[colours.usual][it] for it in numbers_by(patch, colours.usual).tolist()]
+    return [colours.by[colours.usual][it] for it in classes_by(patch, colours.usual).tolist()]
 
 
-def frame_box(window) -> np.ndarray:
+def frame_box(window: Window) -> np.ndarray:
     """The rectangle of a window on its picture, y downwards: its least and its greatest corner."""
     ring, (wide, high) = window.rule.ring, window.box.half
     middle = ring.xy(np.array(window.box.at)) * (1, -1)
@@ -217,32 +222,36 @@ def fitting(patches: List[Patch], most: float, scale: float) -> float:
     return min([scale, *(most / float((box_of(it)[1] - box_of(it)[0])[0]) for it in patches)])
 
 
-def drawn(patch: Patch, colours: Colours, scale: float, marks=False, frame=None, spot=None, firsts=False):
+def drawn(
+    patch: Patch,
+    colours: Colours,
+    scale: float,
+    marks: bool = False,
+    frame: Optional[np.ndarray] = None,
+    spot: Optional[np.ndarray] = None,
+    firsts: bool = False,
+) -> str:
     """A picture with `scale` pixels a length, of the whole patch or cut off at a frame. `marks` numbers tiles
     of several; a dot is at `spot`; `firsts` marks the first vertex of each tile."""
     xy = patch.xy() * (1, -1)
     low, high = box_of(patch) + np.array([[-1], [1]]) * LINE / scale if frame is None else frame
     wide, tall = (high - low).tolist()
-    out = [
-        f'<svg xmlns="http://www.w3.org/2000/svg" '
-        f'width="{number(wide * scale, 1)}" height="{number(tall * scale, 1)}" '
-        f'viewBox="{number(low[0])} {number(low[1])} {number(wide)} {number(tall)}" '
-        f'stroke="#22303a" stroke-width="{number(LINE / scale)}" stroke-linejoin="round">'
-    ]
-    for fill, corners, count in zip(fills_of(patch, colours), xy.tolist(), patch.counts.tolist()):
-        points = " ".join(f"{number(x)},{number(y)}" for x, y in corners[:count])
-        out.append(f'<polygon fill="{fill}" points="{points}"/>')
+    sizes = number(wide * scale, 1), number(tall * scale, 1)
+    look = {"stroke": "#22303a", "stroke_width": number(LINE / scale), "stroke_linejoin": "round"}
+    out = [root((low[0], low[1], wide, tall), *sizes, **look)]
+    for fill, corners, count in zip(tile_fills(patch, colours), xy.tolist(), patch.counts.tolist()):
+        out.append(element("polygon", fill=fill, points=points(corners[:count])))
     out += labels(xy, patch.counts.tolist(), scale) if marks and len(patch) > 1 else []
     if firsts:
         out += [dot(place, 1.8 / scale, "#fff", "#22303a") for place in first_places(xy, 8 / scale).tolist()]
     if spot is not None:
-        out.append(dot(spot * (1, -1), 2.6 / scale, "#22303a", "#fff"))
+        out.append(dot((spot * (1, -1)).tolist(), 2.6 / scale, "#22303a", "#fff"))
     return "".join([*out, "</svg>"])
 
 
-def dot(place, radius: float, fill: str, stroke: str) -> str:
+def dot(place: Sequence[float], radius: float, fill: str, stroke: str) -> str:
     x, y = map(number, place)
-    return f'<circle cx="{x}" cy="{y}" r="{number(radius)}" fill="{fill}" stroke="{stroke}"/>'
+    return element("circle", cx=x, cy=y, r=number(radius), fill=fill, stroke=stroke)
 
 
 def first_places(xy: np.ndarray, far: float) -> np.ndarray:
@@ -255,11 +264,11 @@ def first_places(xy: np.ndarray, far: float) -> np.ndarray:
 
 def labels(xy: np.ndarray, counts: List[int], scale: float) -> List[str]:
     """The number of each child, in the middle of its widest place and as large as that is."""
-    out = [f"<g {LABELS.format(number(3 / scale))}>"]
+    out = ["<g" + attributes(stroke_width=number(3 / scale), **LABELS) + ">"]
     for number_, (corners, count) in enumerate(zip(xy, counts)):
         x, y, room = widest_place(corners[:count])
         size = min(max(room * (1.25 if number_ < 10 else 1), 9 / scale), 17 / scale)
-        out.append(f'<text x="{number(x)}" y="{number(y)}" font-size="{number(size)}">{number_}</text>')
+        out.append(element("text", str(number_), x=number(x), y=number(y), font_size=number(size)))
     return [*out, "</g>"]
 
 

@@ -1,27 +1,32 @@
-"""A patch of a tiling for a game or a program: whole tiles with their corners and neighbours.
+"""A patch of a tiling for a game or a program: whole tiles with their corners, edges and neighbours.
 
-  python3 -m pagnetuf board p3 --tiles 60 > board.json
-  python3 -m pagnetuf board rules/sphinx.toml --half 12,6 --to svg > board.svg
+  pagnetuf board p3 --tiles 60 > board.json
+  pagnetuf board chair --half 3,3 --to csv --out board
+  pagnetuf board rules/sphinx.toml --half 12,6 --to svg > board.svg
 
-json  {"tiles": [{"id", "kind", "turn", "address", "corners", "neighbours"}, ..],
-       "vertices": [{"id", "x", "y", "exact", "star"}, ..], ..}. Edge i of a tile runs from corner i to the
-      next, and neighbour i is the tile across it; null is the rim of the board. `star` is the number of the
-      vertex star in "stars", null at the rim. x and y are in lengths, y upwards; `exact` are the four
-      coefficients.
-csv   the vertices, then the tiles, then the pairs of neighbours, with an empty line between
-svg   a picture in which each tile has its number as id, and its neighbours
-npz   arrays for numpy, into the file that --out names"""
-import json
+json  tiles, vertices, edges, the rim, and vertex stars. board.schema.json beside the package's files says
+what each
+      value means. Edge i of a tile runs from corner i to the next; x and y are in lengths, y upwards.
+csv   the same, a table a file: --out NAME makes NAME_tiles.csv, NAME_vertices.csv, NAME_edges.csv,
+NAME_rim.csv,
+      NAME_stars.csv, and NAME_board.csv with what stands before the tables
+npz   the same as arrays of numpy; pagnetuf.Patch.from_npz reads it
+svg   a picture in which each tile has its number as id, and its neighbours"""
+import argparse
 import math
+import shlex
+from typing import Any, Dict, Tuple
 
 import numpy as np
 
+from ..arguments import pair, point
+from ..board import arrays, as_csv, as_json
 from ..engine import Box, Frame
 from ..patch import Patch
-from ..picture import svg_of
+from ..picture import BY, svg_of
 from ..refusals import TooManyTiles
 from ..sheet import Sheet, gathered
-from ..tiling import Tiling, words_of
+from ..tiling import Tiling
 from .command_line import (
     Trouble,
     add_frame,
@@ -30,13 +35,15 @@ from .command_line import (
     integers,
     tiling_of,
     whole_number,
-    write_text,
+    write_bytes,
+    write_pieces,
 )
 
 MOST = 50_000
+SHAPES = ("round", "rectangle", "nearest")
 
 
-def add_words(parser):
+def add_words(parser: argparse.ArgumentParser) -> None:
     add_rule(parser)
     size = parser.add_mutually_exclusive_group()
     size.add_argument(
@@ -48,41 +55,61 @@ def add_words(parser):
         type=integers(2, 1, 4096),
         help="all tiles of a window, as in `draw`; default 20,12",
     )
+    shapes = (
+        "the shape of N tiles: round (default) and rectangle have a smooth rim, nearest has the nearest tiles"
+    )
+    parser.add_argument("--shape", choices=SHAPES, default="round", help=shapes)
     add_frame(parser)
     parser.add_argument("--halves", action="store_true", help="half tiles, not joined to whole ones")
+    parser.add_argument("--by", choices=BY, help="of svg: what the colours stand for")
     forms = "the format; default json"
     parser.add_argument("--to", choices=("json", "csv", "svg", "npz"), default="json", help=forms)
-    parser.add_argument("--out", metavar="FILE", help="a file instead of standard output")
+    parser.add_argument(
+        "--out", metavar="FILE", help="a file instead of standard output; for csv the files' first word"
+    )
 
 
-def run(options):
-    if options.to == "npz" and not options.out:
-        raise Trouble("npz needs --out FILE.npz")
+def run(options: argparse.Namespace) -> None:
+    if options.to in ("npz", "csv") and not options.out:
+        raise Trouble(f"{options.to} needs --out {'FILE.npz' if options.to == 'npz' else 'NAME'}")
     tiling = tiling_of(options.rule)
-    box, patch = board(tiling, options)
-    if options.to == "npz":
-        np.savez_compressed(options.out, **arrays(patch))
+    patch, about = board(tiling, options), about_of(options)
+    if options.to == "json":
+        write_pieces(as_json(patch, about), options.out)
+    elif options.to == "svg":
+        write_pieces([svg_of(patch, 900, None, True, options.by)], options.out)
+    elif options.to == "csv":
+        for name, pieces in as_csv(patch, about).items():
+            write_pieces(pieces, f"{options.out}_{name}.csv")
     else:
-        made = {"json": as_json, "csv": as_csv, "svg": lambda patch, _: svg_of(patch, 900, None, True)}[
-            options.to
-        ]
-        words = words_of(tiling.machine, frame_of(options), box, not options.halves)
-        write_text(made(patch, words), options.out)
+        write_bytes(lambda file: np.savez_compressed(file, **arrays(patch, about)), options.out)
 
 
-def board(tiling: Tiling, options):
-    """The window in which the board is, and the board."""
-    frame, at, whole = frame_of(options), tuple(options.at), not options.halves
+def about_of(options: argparse.Namespace) -> Dict[str, Any]:
+    """How the board was made."""
+    half = {"half": list(options.half or (20, 12))}
+    asked = {"tiles": options.tiles, "shape": options.shape} if options.tiles else half
+    words = ["pagnetuf", "board", options.rule]
+    words += ["--tiles", str(options.tiles), "--shape", options.shape] if options.tiles else []
+    words += [] if options.tiles else ["--half", ",".join(map(str, half["half"]))]
+    words += ["--at=" + ",".join(map(str, options.at)), "--seed", str(options.seed), "--addr", options.addr]
+    words += ["--halves"] if options.halves else []
+    made = {"made_by": shlex.join(words), "rule": options.rule, "seed": options.seed, "addr": options.addr}
+    return {**made, "at": list(options.at), "asked": asked, "whole": not options.halves}
+
+
+def board(tiling: Tiling, options: argparse.Namespace) -> Patch:
+    """The tiles of a window, or so many connected ones."""
+    frame, at, whole = frame_of(options), point("at", options.at), not options.halves
     if not options.tiles:
-        box = Box(at, tuple(options.half or (20, 12)))
-        return box, in_window(tiling, frame, box, whole)
+        return in_window(tiling, frame, Box(at, pair("half", options.half or (20, 12))), whole)
     box = Box(at, first_half(tiling, options.tiles))
     while True:
         patch = in_windows(tiling, frame, box, whole)
         if len(patch) >= 2 * options.tiles + 8:
-            centre = tiling.ring.xy(np.array(at))
-            return box, patch.connected(options.tiles, tuple(centre))
-        box = Box(at, tuple(min(4096, side * 3 // 2 + 1) for side in box.half))
+            x, y = tiling.ring.xy(np.array(at)).tolist()
+            return patch.connected(options.tiles, (x, y), options.shape)
+        box = Box(at, (min(4096, box.half[0] * 3 // 2 + 1), min(4096, box.half[1] * 3 // 2 + 1)))
 
 
 def in_window(tiling: Tiling, frame: Frame, box: Box, whole: bool) -> Patch:
@@ -92,84 +119,16 @@ def in_window(tiling: Tiling, frame: Frame, box: Box, whole: bool) -> Patch:
 
 
 def in_windows(tiling: Tiling, frame: Frame, box: Box, whole: bool) -> Patch:
-    """The tiles of a window, also of one with more than the program lists."""
+    """The tiles of a window, also of one with more than the engine lists."""
     try:
         return in_window(tiling, frame, box, whole)
     except TooManyTiles:
-        return gathered(list(Sheet(tiling, box.half, box.at, frame, None, whole).pieces()))
+        return gathered(list(Sheet(tiling, box.half, box.at, frame, None, whole).pieces(progress=True)))
 
 
-def first_half(tiling: Tiling, tiles: int):
+def first_half(tiling: Tiling, tiles: int) -> Tuple[int, int]:
     """A window, nearly square in lengths, with some three times as many tiles, as far as their least area
     tells."""
     high = 2 * tiling.ring.sine
     across = math.sqrt(3 * tiles * tiling.rule.least_area() * tiling.ring.sine / 2)
     return max(2, math.ceil(across)), max(2, math.ceil(across / high))
-
-
-def ragged(rows: np.ndarray, counts: np.ndarray):
-    """The rows as lists without what is behind their counts, -1 as None."""
-    return [
-        [None if it < 0 else it for it in row[:count]] for row, count in zip(rows.tolist(), counts.tolist())
-    ]
-
-
-def as_json(patch: Patch, words: str) -> str:
-    names, numbers = patch.star_labels()
-    xy = np.round(patch.rule.ring.xy(patch.vertices()), 9) + 0.0
-    vertices = [
-        {"id": i, "x": x, "y": y, "exact": exact, "star": None if star < 0 else star}
-        for i, ((x, y), exact, star) in enumerate(
-            zip(xy.tolist(), patch.vertices().tolist(), numbers.tolist())
-        )
-    ]
-    corners, near = ragged(patch.corners(), patch.counts), ragged(patch.neighbours(), patch.counts)
-    rows = zip(patch.kinds.tolist(), patch.turns.tolist(), patch.address_texts(), corners, near)
-    tiles = [
-        {"id": i, "kind": kind, "turn": turn, "address": address, "corners": mine, "neighbours": others}
-        for i, (kind, turn, address, mine, others) in enumerate(rows)
-    ]
-    stars = [{"id": i, "corners": [list(it) for it in star]} for i, star in enumerate(names)]
-    head = [f'"made_by": {json.dumps("tiling " + words)}', f'"order": {patch.rule.order}']
-    rows = [
-        f'"{name}": [\n' + ",\n".join(json.dumps(it) for it in items) + "\n]"
-        for name, items in (("tiles", tiles), ("vertices", vertices), ("stars", stars))
-    ]
-    return "{" + ",\n".join(head + rows) + "}\n"
-
-
-def as_csv(patch: Patch, _words: str) -> str:
-    xy = np.round(patch.rule.ring.xy(patch.vertices()), 9) + 0.0
-    out = ["vertex,x,y,a0,a1,a2,a3"]
-    out += [
-        f"{i},{x!r},{y!r}," + ",".join(map(str, exact))
-        for i, ((x, y), exact) in enumerate(zip(xy.tolist(), patch.vertices().tolist()))
-    ]
-    corners, near = ragged(patch.corners(), patch.counts), ragged(patch.neighbours(), patch.counts)
-    out += ["", "tile,kind,turn,corners,neighbours"]
-    out += [
-        f"{i},{kind},{turn},{' '.join(map(str, corners[i]))},"
-        + " ".join("-" if n is None else str(n) for n in near[i])
-        for i, (kind, turn) in enumerate(zip(patch.kinds.tolist(), patch.turns.tolist()))
-    ]
-    out += ["", "tile,tile,edge,edge"] + [",".join(map(str, row)) for row in patch.adjacency().tolist()]
-    return "\n".join([*out, ""])
-
-
-def arrays(patch: Patch) -> dict:
-    """The arrays of a patch by their names, as `Patch` has them."""
-    found = {
-        "kinds": patch.kinds,
-        "turns": patch.turns,
-        "shifts": patch.shifts,
-        "counts": patch.counts,
-        "corners": patch.corners(),
-        "vertices": patch.vertices(),
-        "xy": patch.rule.ring.xy(patch.vertices()),
-        "edges": patch.edges(),
-        "neighbours": patch.neighbours(),
-        "adjacency": patch.adjacency(),
-    }
-    if patch.rule.order in (8, 10):
-        found["perpendicular"] = patch.perpendicular()
-    return found

@@ -4,28 +4,21 @@ import importlib
 import os
 import re
 import sys
-from typing import List, Optional
+from typing import Any, BinaryIO, Callable, Iterable, List, Optional
 
 from .. import __version__, places
-from ..engine import Frame
+from ..colour_names import NAMES
+from ..engine import BUILT_IN, Frame
+from ..picture import PALETTES
 from ..refusals import NoEngine, Refusal
-from ..built_in import BUILT_IN
-from ..tiling import Tiling
+from ..tiling import Tiling, call
 
+ENGINE_COMMANDS = ("place", "neighbour", "walk", "draw", "check", "calc", "drill", "star", "verify")
 COMMANDS = {
     "board": "a patch as data: corners, neighbours, vertex numbers",
     "poster": "a page in millimetres, in colours or as lines for a cutter",
     "explore": "a page to pan and zoom in the browser",
     "atlas": "a page about a rule: prototiles, inflation, vertex stars, a patch",
-}
-# what to do, printed after a refusal
-CURES = {
-    "BadWords": "a number is out of range: --at has four up to 1048576, --half two from 1 to 4096",
-    "RuleRefused": "docs/TUTORIAL.md explains this refusal of a rule file, and how to fix it",
-    "BadAddress": "an address is KIND:CHILD/PARENT,.. from fine to coarse, such as 0:1/0,2/0",
-    "CoordLimit": "this seed has no tiles so far out: use another --seed, or a nearer point",
-    "DepthLimit": "use another --seed",
-    "TooManyTiles": "use a smaller window",
 }
 
 
@@ -33,7 +26,7 @@ class Trouble(Exception):
     """Why a command cannot do what was asked, in a sentence."""
 
 
-def integers(count: int, least: int = -(1 << 20), most: int = 1 << 20):
+def integers(count: int, least: int = -(1 << 20), most: int = 1 << 20) -> Callable[[str], List[int]]:
     """A type of argparse: `count` integers with commas between."""
 
     def parsed(text: str) -> List[int]:
@@ -48,7 +41,7 @@ def integers(count: int, least: int = -(1 << 20), most: int = 1 << 20):
     return parsed
 
 
-def whole_number(least: int, most: int):
+def whole_number(least: int, most: int) -> Callable[[str], int]:
     """A type of argparse: an integer from `least` to `most`."""
 
     def parsed(text: str) -> int:
@@ -60,20 +53,30 @@ def whole_number(least: int, most: int):
 
 
 def colours(text: str) -> List[str]:
-    """A type of argparse: colours as #rrggbb or #rgb, with commas between."""
+    """A type of argparse: the name of a palette, or colours with commas between, as #rrggbb, #rgb or a name
+    of CSS."""
+    if text in PALETTES:
+        return list(PALETTES[text])
     parts = text.split(",")
-    if not all(re.fullmatch(r"#(?:[0-9A-Fa-f]{3}){1,2}", part) for part in parts):
-        raise argparse.ArgumentTypeError(f"{text!r} is not a list of colours such as #0b3954,#ff6663")
+    wrong = [
+        part
+        for part in parts
+        if not re.fullmatch(r"#(?:[0-9A-Fa-f]{3}){1,2}", part) and part.lower() not in NAMES
+    ]
+    if wrong:
+        raise argparse.ArgumentTypeError(
+            f"{wrong[0]!r} is no colour such as #0b3954 or navy, and no palette: {', '.join(PALETTES)}"
+        )
     return parts
 
 
-def add_rule(parser: argparse.ArgumentParser):
+def add_rule(parser: argparse.ArgumentParser) -> None:
     parser.add_argument(
         "rule", help="p2, p3, ab, chair, halfhex, a rule file, or the name of one in rules/, such as sphinx"
     )
 
 
-def add_frame(parser: argparse.ArgumentParser):
+def add_frame(parser: argparse.ArgumentParser) -> None:
     """The options that name a plane and a point of it."""
     parser.add_argument(
         "--at",
@@ -90,44 +93,59 @@ def add_frame(parser: argparse.ArgumentParser):
 
 def tiling_of(name: str) -> Tiling:
     """The tiling of a name or a rule file."""
-    if name in BUILT_IN:
+    if is_known(name):
         return Tiling(name)
     try:
-        return Tiling.from_file(rule_file(name))
+        return Tiling.from_file(name)
     except OSError as trouble:
         raise Trouble(
             f"there is no tiling {name}, and no file {name} can be read ({trouble.strerror}); "
-            f"rule files are in {places.shared('rules')}"
+            f"rule files are in {places.rules()}"
         ) from trouble
-    except (UnicodeDecodeError, ValueError) as trouble:
-        raise Trouble(f"{name} is TOML 1.1, and Python reads only TOML 1.0: {trouble}") from trouble
-    except ModuleNotFoundError as trouble:
-        raise Trouble(str(trouble)) from trouble
 
 
-def rule_file(name: str) -> str:
-    """The path of a rule file: the name itself, or that of a file of rules/, such as `sphinx`."""
-    kept = places.shared("rules", f"{name}.toml")
-    known = re.fullmatch(r"[a-z0-9_]{1,60}", name) and not os.path.exists(name) and os.path.exists(kept)
-    return kept if known else name
+def is_known(name: str) -> bool:
+    """Whether a name is that of a tiling of the package, and of no file here."""
+    return name in BUILT_IN or bool(places.rule_file(name) and not os.path.exists(name))
 
 
-def frame_of(options) -> Frame:
+def frame_of(options: argparse.Namespace) -> Frame:
     return Frame(options.addr, options.seed)
 
 
-def write_text(text: str, path: Optional[str]):
-    """Writes to a file, or to standard output."""
+def write_pieces(pieces: Iterable[str], path: Optional[str]) -> None:
+    """Writes a text as it is made, to a file or to standard output. A file is there only when all of it
+    is."""
     if path:
-        with open(path, "w", encoding="utf-8") as file:
-            file.write(text)
+        write_bytes(lambda file: [file.write(piece.encode()) for piece in pieces], path)
     elif sys.stdout:
-        sys.stdout.write(text)
+        for piece in pieces:
+            sys.stdout.write(piece)
     else:
         raise Trouble("standard output is closed")
 
 
-def tell(text: str):
+def write_bytes(write: Callable[[BinaryIO], Any], path: str) -> None:
+    """Writes a file under another name, which it changes when all of it is there. What is no plain file, such
+    as a device, is written as it is."""
+    if os.path.exists(path) and not os.path.isfile(path):
+        with open(path, "wb") as file:
+            write(file)
+        return
+    part = f"{path}.part"
+    try:
+        with open(part, "wb") as file:
+            write(file)
+        os.replace(part, path)
+    except BaseException as fault:
+        if os.path.exists(part):
+            os.remove(part)
+        if isinstance(fault, OSError) and fault.filename == part:
+            fault.filename = path
+        raise
+
+
+def tell(text: str) -> None:
     """A line on standard error."""
     print(text, file=sys.stderr, flush=True)
 
@@ -144,13 +162,16 @@ def joined(words: List[str]) -> List[str]:
 
 
 def called() -> str:
-    """What a user types before a command's name: `tiling` if it is installed, as its launcher reports."""
-    return os.environ.get("TILING_COMMAND") or "python3 -m pagnetuf"
+    """What a user types before a command's name: `tiling` if it is installed, as its launcher reports, or
+    `pagnetuf` from a wheel."""
+    script = os.path.basename(sys.argv[0]) if sys.argv else ""
+    return os.environ.get("TILING_COMMAND") or ("pagnetuf" if script == "pagnetuf" else "python3 -m pagnetuf")
 
 
 def parser() -> argparse.ArgumentParser:
+    about = f"The engine's own commands are taken too: {', '.join(ENGINE_COMMANDS)}; docs/FORMATS.md."
     top = argparse.ArgumentParser(
-        prog=called(), description=__import__("pagnetuf").__doc__, allow_abbrev=False
+        prog=called(), description=__import__("pagnetuf").__doc__, epilog=about, allow_abbrev=False
     )
     top.add_argument("--version", action="version", version=f"pagnetuf {__version__}")
     commands = top.add_subparsers(dest="command", metavar="COMMAND", required=True)
@@ -159,7 +180,7 @@ def parser() -> argparse.ArgumentParser:
         one = commands.add_parser(
             name,
             help=line,
-            description=module.__doc__.replace("python3 -m pagnetuf", called()),
+            description=(module.__doc__ or "").replace("\n  pagnetuf ", f"\n  {called()} "),
             allow_abbrev=False,
             formatter_class=argparse.RawDescriptionHelpFormatter,
         )
@@ -173,6 +194,8 @@ def status_of(words: List[str]) -> int:
     if not words:
         parser().print_help(sys.stderr)
         return 2
+    if words[0] in ENGINE_COMMANDS:
+        return engine_status(words)
     options = parser().parse_args(joined(words))
     try:
         options.run(options)
@@ -180,21 +203,38 @@ def status_of(words: List[str]) -> int:
         return 0
     except Refusal as refused:
         tell(refused.line)
-        cure = CURES.get(type(refused).__name__, "docs/FORMATS.md explains this refusal")
-        tell(f"{called()} {options.command}: {cure}")
+        tell(f"{called()} {options.command}: {refused.sentence}")
         return refused.status
     except (Trouble, NoEngine) as trouble:
         tell(f"{called()} {options.command}: {trouble}")
         return 1
 
 
-def flush():
+def engine_status(words: List[str]) -> int:
+    """Runs a command of the engine itself, as the program `tiling` does, and says in words why it is
+    refused."""
+    try:
+        needs = "rule=-" in words or words[0] in ("calc", "verify")
+        sys.stdout.buffer.write(call(words, sys.stdin.buffer.read() if needs else b""))
+        flush()
+        return 0
+    except Refusal as refused:
+        tell(refused.line)
+        if sys.stderr.isatty():
+            tell(f"{called()} {words[0]}: {refused.sentence}")
+        return refused.status
+    except NoEngine as trouble:
+        tell(f"{called()} {words[0]}: {trouble}")
+        return 1
+
+
+def flush() -> None:
     """Writes what standard output still holds, if it is open."""
     if sys.stdout:
         sys.stdout.flush()
 
 
-def run(words: Optional[List[str]] = None):
+def run(words: Optional[List[str]] = None) -> None:
     """Ends with the status, and silently if standard output is a closed pipe."""
     try:
         status = status_of(sys.argv[1:] if words is None else words)

@@ -1,12 +1,13 @@
 """Opens a page in the browser to pan and zoom tilings.
 
-  python3 -m pagnetuf explore
-  python3 -m pagnetuf explore sphinx --seed 3 --at 1000,-7,0,0
-  python3 -m pagnetuf explore my_rule.toml --print
+  pagnetuf explore
+  pagnetuf explore sphinx --seed 3 --at 1000,-7,0,0
+  pagnetuf explore my_rule.toml --print
 
 The page is one file, docs/explore.html. It has the engine and all rule files inside, and needs no network.
 The address of the page is printed too, for a browser of your choice; it has the view, and the text of a
 rule file of your own."""
+import argparse
 import base64
 import os
 import pathlib
@@ -15,13 +16,12 @@ import webbrowser
 from urllib.parse import quote
 
 from .. import places
-from ..built_in import BUILT_IN
-from .command_line import Trouble, add_frame, frame_of, rule_file
+from .command_line import Trouble, add_frame, frame_of, is_known
 
 MOST_FILE = 1 << 16  # bytes of a rule file in an address
 
 
-def add_words(parser):
+def add_words(parser: argparse.ArgumentParser) -> None:
     parser.add_argument(
         "rule",
         nargs="?",
@@ -32,7 +32,7 @@ def add_words(parser):
     parser.add_argument("--print", action="store_true", help="only print the address")
 
 
-def run(options):
+def run(options: argparse.Namespace) -> None:
     address = f"{pathlib.Path(page()).as_uri()}#{view(options)}"
     print(address, flush=True)
     if not options.print:
@@ -40,16 +40,14 @@ def run(options):
 
 
 def page() -> str:
-    """The path of the page: next to the package's files, of the checkout, or the installed one."""
-    installed = os.path.join(places.PREFIX, "share", "doc", "tiling", "docs", "explore.html")
-    paths = [os.path.join(places.HERE, "explore.html"), places.shared("docs", "explore.html"), installed]
-    found = [path for path in paths if os.path.exists(path)]
+    """The path of the page."""
+    found = places.page()
     if not found:
-        raise Trouble(f"there is no page {paths[1]}: packaging/make_page.py makes it")
-    return found[0]
+        raise Trouble("there is no page explore.html: packaging/make_page.py makes it")
+    return found
 
 
-def view(options) -> str:
+def view(options: argparse.Namespace) -> str:
     """What the page reads behind the # of its address."""
     frame = frame_of(options)
     words = {
@@ -63,9 +61,11 @@ def view(options) -> str:
 
 def tiling(name: str) -> dict:
     """The name of a tiling that the page knows, or the text of a rule file."""
-    path = rule_file(name)
-    if name in BUILT_IN or os.path.dirname(os.path.abspath(path)) == os.path.abspath(places.shared("rules")):
-        return {"tiling": os.path.splitext(os.path.basename(path))[0]}
+    known = places.rule_file(os.path.splitext(os.path.basename(name))[0])
+    is_file_of_rules = known and os.path.exists(name) and os.path.samefile(name, known)
+    if is_known(name) or is_file_of_rules:
+        return {"tiling": os.path.splitext(os.path.basename(name))[0]}
+    path = name
     try:
         with open(path, "rb") as file:
             data = file.read(MOST_FILE + 1)

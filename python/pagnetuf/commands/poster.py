@@ -1,28 +1,43 @@
 """A page in millimetres: a poster, a background, or lines for a cutter.
 
-  python3 -m pagnetuf poster p3 --size 1000,700 --tile 12 --colours '#0b3954,#ff6663' > poster.svg
-  python3 -m pagnetuf poster p3 --size 600,600 --star 5 > star.svg
-  python3 -m pagnetuf poster ab --size 300,200 --cut --to dxf --out cut.dxf
+  pagnetuf poster p3 --size 1000,700 --tile 12 --colours navy,#ff6663 > poster.svg
+  pagnetuf poster p3 --size 600,600 --star 5 --by neighbours > star.svg
+  pagnetuf poster ab --size 300,200 --cut --to dxf --out cut.dxf
 
 Each colour is a layer of Inkscape, and a group with an id; the layer has the colour, so one change recolours
 its tiles. All numbers are millimetres. A page with more tiles than a window may have is put together from
 several windows. The command `draw` for the same window is printed on standard error."""
+import argparse
 import re
 from argparse import ArgumentTypeError
-from typing import Dict, Iterable, Iterator, List, Optional, Tuple
+from concurrent.futures import ProcessPoolExecutor
+from typing import Callable, Dict, Iterable, Iterator, List, NamedTuple, Optional, Sequence, Tuple
 
 import numpy as np
 
 from .. import places
+from ..arguments import Point, point
+from ..colouring import proper_colouring
 from ..engine import Box, Frame
 from ..patch import Patch
-from ..picture import COLOURS, Colours, escaped, number
+from ..picture import COLOURS, PALETTES, colours_of
 from ..refusals import CoordLimit, DepthLimit
 from ..sheet import Sheet, gathered
-from ..strokes import strokes
+from ..strokes import each_stroke, strokes
+from ..svg import element, escaped, number, root
 from ..symmetry import NoPlace, kept_radius, symmetric_place
 from ..tiling import Tiling, words_of
-from .command_line import Trouble, add_frame, add_rule, colours, frame_of, tell, tiling_of, write_text
+from .command_line import (
+    Trouble,
+    add_frame,
+    add_rule,
+    colours,
+    frame_of,
+    tell,
+    tiling_of,
+    whole_number,
+    write_pieces,
+)
 
 MOST_TILES = 4_000_000
 INK = "#222222"
@@ -32,9 +47,12 @@ MOST_TEXT, MOST_CORNERS = 50_000, 2_000
 MOST_WHOLE, MOST_PART = 50_000, 2_000  # tiles
 ROUND = 'stroke-linejoin="round" stroke-linecap="round"'
 CLIP = 'clip-path="url(#page)"'
+EPSILON = 1e-9  # mm
+BY = ("kind", "turn", "star", "neighbours", "ring")
+RINGS = 5
 
 
-def millimetres(count: int, least: float, most: float):
+def millimetres(count: int, least: float, most: float) -> Callable[[str], List[float]]:
     """A type of argparse: `count` lengths with commas between."""
 
     def parsed(text: str) -> List[float]:
@@ -63,7 +81,7 @@ def symmetry(text: str) -> Tuple[int, int]:
     return int(fold), int(which or 0)
 
 
-def add_words(parser):
+def add_words(parser: argparse.ArgumentParser) -> None:
     add_rule(parser)
     add_look(parser)
     star = (
@@ -72,88 +90,96 @@ def add_words(parser):
     )
     parser.add_argument("--star", metavar="M[,N]", type=symmetry, help=star)
     add_frame(parser)
+    jobs = "so many processes compute the windows of a large page; default 1"
+    parser.add_argument("--jobs", metavar="N", type=whole_number(1, 1024), default=1, help=jobs)
     parser.add_argument("--halves", action="store_true", help="half tiles, not joined to whole ones")
     forms = "the format (default svg); dxf is for --cut"
     parser.add_argument("--to", choices=("svg", "dxf"), default="svg", help=forms)
     parser.add_argument("--out", metavar="FILE", help="a file instead of standard output")
 
 
-def add_look(parser):
+def add_look(parser: argparse.ArgumentParser) -> None:
     """The options of the page, its colours and its lines."""
     size, tile = millimetres(2, 1, 20000), millimetres(1, 0.1, 10000)
     by = (
-        "what decides the colour (--colour of paint.py): kind (default), turn, or the rarest vertex star at "
-        "a tile's corners"
+        "what a colour stands for: kind (default), turn, the rarest vertex star at a tile's corners, "
+        "neighbours (no two tiles with a common edge are alike), or the ring around the centre. With --star, "
+        "kind, turn, star and ring keep the symmetry"
     )
-    inks = "the colours, in the order of the layers (--palette of paint.py)"
+    inks = f"colours of CSS, in the order of the layers, or a palette: {', '.join(PALETTES)}"
     lines = "the width and colour of the lines, 0 for none; default 0.3,#222222"
     joined_ = "one area for each colour, without seams between its tiles"
     cut = "no areas: each edge exactly once, in the fewest strokes, clipped to the page, and a frame"
     add = parser.add_argument
     add("--size", metavar="W,H", type=size, default=[1000, 700], help="the page in mm; 1000,700")
     add("--tile", metavar="MM", type=tile, default=[10.0], help="one length in mm; 10")
-    add("--by", choices=("kind", "turn", "star"), default="kind", help=by)
+    add("--by", choices=BY, default="kind", help=by)
     add("--colours", metavar="C,C,..", type=colours, help=inks)
     add("--line", metavar="MM[,C]", type=line, default=(0.3, INK), help=lines)
     add("--joined", action="store_true", help=joined_)
     add("--cut", action="store_true", help=cut)
 
 
-def run(options):
+def run(options: argparse.Namespace) -> None:
     if options.to == "dxf" and not options.cut:
         raise Trouble("dxf has lines only: add --cut")
     tiling = tiling_of(options.rule)
     page = Page(options.size, options.tile[0])
-    frame, at = frame_of(options), tuple(options.at)
+    frame, at = frame_of(options), point("at", options.at)
     if options.star:
         frame, at = symmetric(tiling, page, frame, at, options)
-    patch = tiles_of_page(tiling, page, frame, at, not options.halves)
-    words = words_of(tiling.machine, frame, Box(at, page.half(tiling)), not options.halves)
-    tell(f"{len(patch)} tiles; the same window: {places.command()} {words}")
     page.centre = np.array(at)
-    if options.cut:
-        edges, ends = clipped_edges(patch, page)
-        trails = strokes(edges)
-        tell(f"{len(edges)} edges in {len(trails)} strokes, each edge exactly once")
-        text = (dxf if options.to == "dxf" else cut_svg)([[ends[v] for v in trail] for trail in trails], page)
-    else:
-        text = poster_svg(patch, page, options)
-    write_text(text, options.out)
+    patch = tiles_of_page(tiling, page, frame, at, options)
+    words = words_of(tiling.machine, frame, Box(at, page.half(tiling)), not options.halves)
+    on_page = within(patch, page)
+    tell(f"{int(on_page.sum())} tiles; the same window: {places.command()} {words}{source_of(tiling)}")
+    write_pieces(
+        cut_page(patch, page, options) if options.cut else poster_svg(patch, page, options), options.out
+    )
+
+
+def source_of(tiling: Tiling) -> str:
+    """What is typed behind the words of `draw` for a rule file."""
+    return f" < {places.shown(tiling.name)}" if tiling.machine.name == "-" else ""
 
 
 class Page:
     """A page with its size in millimetres, and the size of a length on it."""
 
-    def __init__(self, size, tile: float):
+    def __init__(self, size: Sequence[float], tile: float):
         self.wide, self.high, self.tile = size[0], size[1], tile
         self.centre = np.zeros(4, np.int64)
 
     def half(self, tiling: Tiling) -> Tuple[int, int]:
-        """The window that contains the page, and a little more."""
-        return int(self.wide / self.tile) + 2, int(self.high / self.tile / 2 / tiling.ring.sine) + 2
+        """The window that contains the page, and a little more: also the tiles around each vertex on the
+        page."""
+        more = [int(side) + 1 for side in tiling.rule.extent]
+        return (
+            int(self.wide / self.tile) + more[0],
+            int(self.high / self.tile / 2 / tiling.ring.sine) + more[1],
+        )
 
     def places(self, patch: Patch, points: np.ndarray) -> np.ndarray:
         """The positions of points on the page, in mm from its upper left corner: float64 (n, 2)."""
-        return patch.rule.ring.xy(points - self.centre) * (self.tile, -self.tile) + (
-            self.wide / 2,
-            self.high / 2,
-        )
+        scaled = patch.rule.ring.xy(points - self.centre) * (self.tile, -self.tile)
+        return scaled + (self.wide / 2, self.high / 2)
 
 
-def symmetric(tiling: Tiling, page: Page, frame: Frame, at, options):
+def symmetric(
+    tiling: Tiling, page: Page, frame: Frame, at: Point, options: argparse.Namespace
+) -> Tuple[Frame, Point]:
     """The frame and the point of the place that --star asks for. Prints where it is, and how far it is
     symmetric."""
     fold, which = options.star
     radius = float(np.hypot(page.wide, page.high)) / 2 / page.tile + 2
     try:
         place = symmetric_place(tiling, fold, which, radius, frame, at)
-        window = tiling.window(
-            place.at, tuple(min(side, 60) for side in page.half(tiling)), place.frame.seed, place.frame.base
-        )
+        wide, high = page.half(tiling)
+        window = tiling.window(place.at, (min(wide, 60), min(high, 60)), place.frame.seed, place.frame.base)
     except NoPlace as none:
         raise Trouble(str(none)) from none
     except (CoordLimit, DepthLimit) as refused:
-        raise Trouble(f"{refused}: use another --seed") from refused
+        raise Trouble(f"{refused.line}: use another --seed") from refused
     seen = kept_radius(window if options.halves else window.whole(), place.at, fold)
     where = f"addr={place.frame.base} seed={place.frame.seed} at={','.join(map(str, place.at))}"
     tell(
@@ -163,7 +189,7 @@ def symmetric(tiling: Tiling, page: Page, frame: Frame, at, options):
     return place.frame, place.at
 
 
-def tiles_of_page(tiling: Tiling, page: Page, frame: Frame, at, whole: bool) -> Patch:
+def tiles_of_page(tiling: Tiling, page: Page, frame: Frame, at: Point, options: argparse.Namespace) -> Patch:
     """The tiles of the page, of one window or of several side by side."""
     half = page.half(tiling)
     guess = 4 * half[0] * half[1] / tiling.rule.least_area()
@@ -171,55 +197,107 @@ def tiles_of_page(tiling: Tiling, page: Page, frame: Frame, at, whole: bool) -> 
         raise Trouble(
             f"the page would have up to {guess:.0f} tiles, and may have {MOST_TILES}: use a larger --tile"
         )
-    sheet = Sheet(tiling, half, at, frame, None, whole)
-    pieces, count = [], len(sheet.rows) * len(sheet.columns)
-    for piece in sheet.pieces():
-        pieces.append(piece)
-        if count > 4:
-            tell(f"window {len(pieces)} of {count}: {sum(map(len, pieces))} tiles so far")
-    return gathered(pieces)
+    sheet = Sheet(tiling, half, at, frame, None, not options.halves, False)
+    if options.jobs == 1 or len(sheet) == 1:
+        return gathered(list(sheet.pieces(progress=True)))
+    with ProcessPoolExecutor(options.jobs) as executor:
+        return gathered(list(sheet.pieces(executor, 4 * options.jobs, progress=True)))
 
 
-def classes(patch: Patch, by: str) -> Tuple[np.ndarray, Dict[int, str]]:
+class Classes(NamedTuple):
     """The class of each tile, and the name of each class."""
+
+    of: np.ndarray
+    names: Dict[int, str]
+
+
+def classes(patch: Patch, page: Page, options: argparse.Namespace) -> Classes:
+    """What the colours stand for."""
+    by = options.by
     if by == "kind":
-        return patch.kinds.astype(int), {int(kind): f"kind {kind}" for kind in np.unique(patch.kinds)}
+        return Classes(
+            patch.kinds.astype(int), {int(kind): f"kind {kind}" for kind in np.unique(patch.kinds)}
+        )
     if by == "turn":
-        return patch.turns.astype(int), {int(turn): f"turn {turn}" for turn in np.unique(patch.turns)}
+        # (a turn that keeps the star keeps each class)
+        most = patch.rule.order // options.star[0] if options.star else patch.rule.order
+        turns = patch.turns.astype(int) % most
+        return Classes(turns, {int(turn): f"turn {turn}" for turn in np.unique(turns)})
+    if by == "neighbours":
+        colouring, count = proper_colouring(patch.neighbours())
+        if count > 4:
+            tell(f"{count} colours, since no proper colouring with four was found")
+        found = colouring.astype(int)
+        return Classes(found, {int(it): f"colour {it}" for it in np.unique(found)})
+    if by == "ring":
+        count = len(options.colours or COLOURS[:RINGS])
+        found = rings(patch, page) % count
+        return Classes(found, {int(it): f"ring {it} of {count}" for it in np.unique(found)})
     names, numbers = patch.star_labels()
     at_corners = np.where(patch.corners() >= 0, numbers[patch.corners()], -1)
-    found = at_corners.max(1)  # (stars come by frequency, so the rarest has the greatest number)
-    return found, {
-        int(it): f"star {it}, of {len(names[it])} tiles" if it >= 0 else "rim" for it in np.unique(found)
-    }
+    # (stars come by frequency, so the rarest has the greatest number; no tile on the page is at the rim
+    # alone)
+    found = np.maximum(at_corners.max(1), 0)
+    return Classes(found, {int(it): f"star {it}, of {len(names[it])} tiles" for it in np.unique(found)})
 
 
-def hundredths(places: np.ndarray) -> List[List[str]]:
+def rings(patch: Patch, page: Page) -> np.ndarray:
+    """How many steps across edges each tile is from the tiles at the vertex nearest to the centre of the
+    page."""
+    far = ((patch.rule.ring.xy(patch.vertices() - page.centre)) ** 2).sum(1)
+    near, steps = patch.neighbours(), np.full(len(patch), -1)
+    layer = np.flatnonzero((patch.corners() == int(np.argmin(far))).any(1))
+    number_of = 0
+    while len(layer):
+        steps[layer] = number_of
+        beside = np.unique(near[layer])
+        layer = beside[(beside >= 0) & (steps[beside] < 0)]
+        number_of += 1
+    return np.maximum(steps, 0)
+
+
+def hundredths(places_of: np.ndarray) -> List[List[str]]:
     """Millimetres as texts, to two digits."""
-    return [[number(x, 2), number(y, 2)] for x, y in places.tolist()]
+    return [[number(x, 2), number(y, 2)] for x, y in places_of.tolist()]
 
 
-def poster_svg(patch: Patch, page: Page, options) -> str:
-    places = page.places(patch, patch.vertices())
-    texts = [" ".join(pair) for pair in hundredths(places)]
-    on_page = within(patch, page, places)
-    of, names = classes(patch, options.by)
-    out = head(page)
+def poster_svg(patch: Patch, page: Page, options: argparse.Namespace) -> Iterator[str]:
+    """The picture, layer by layer."""
+    spots = page.places(patch, patch.vertices())
+    texts = [" ".join(pair) for pair in hundredths(spots)]
+    on_page = within(patch, page)
+    of, names = classes(patch, page, options)
+    names = {name: label for name, label in names.items() if (of[on_page] == name).any()}
+    yield from head(page)
     for (name, label), colour in zip(names.items(), layer_colours(patch, options, list(names))):
         look = f'fill="{colour}" stroke="{colour}" stroke-width="0.1" stroke-linejoin="round" {CLIP}'
-        out.append(layer(f"{options.by}{name}", label, look))
-        out += (joined if options.joined else apart)(patch, np.flatnonzero((of == name) & on_page), texts)
-        out.append("</g>")
+        yield layer(f"{options.by}{name}", label, look)
+        yield from lines(
+            (joined if options.joined else apart)(patch, np.flatnonzero((of == name) & on_page), texts)
+        )
+        yield "</g>\n"
     width, ink = options.line
     if width:
-        trails = strokes(shown(patch.edges(), places, page))
         look = f'fill="none" stroke="{ink}" stroke-width="{number(width)}" {ROUND} {CLIP}'
-        out.append(layer("lines", "lines", look))
-        out += [*paths("M" + "L".join(texts[v] for v in trail) for trail in shorter(trails)), "</g>"]
-    return "\n".join([*out, "</svg>", ""])
+        yield layer("lines", "lines", look)
+        trails = each_stroke(shown(patch.edges(), spots, page))
+        yield from lines(paths("M" + "L".join([texts[v] for v in trail]) for trail in shorter(trails)))
+        yield "</g>\n"
+    yield "</svg>\n"
 
 
-def shorter(trails: List[List[int]]) -> Iterator[List[int]]:
+def lines(elements: Iterable[str]) -> Iterator[str]:
+    """Elements, each in a line, a thousand at a time."""
+    some: List[str] = []
+    for one in elements:
+        some.append(one)
+        if len(some) == 1000:
+            yield "\n".join([*some, ""])
+            some = []
+    yield "\n".join([*some, ""]) if some else ""
+
+
+def shorter(trails: Iterable[List[int]]) -> Iterator[List[int]]:
     """The same lines, with long trails in parts."""
     for trail in trails:
         for start in range(0, max(1, len(trail) - 1), MOST_CORNERS):
@@ -228,62 +306,68 @@ def shorter(trails: List[List[int]]) -> Iterator[List[int]]:
 
 def paths(pieces: Iterable[str]) -> Iterator[str]:
     """Pieces of paths put together to few elements, none with a long attribute: see `joined`."""
-    some, size = [], 0
+    some: List[str] = []
+    size = 0
     for piece in pieces:
         if some and size + len(piece) > MOST_TEXT:
-            yield f'<path d="{"".join(some)}"/>'
+            yield element("path", d="".join(some))
             some, size = [], 0
         some.append(piece)
         size += len(piece)
-    yield f'<path d="{"".join(some)}"/>'
+    if some:
+        yield element("path", d="".join(some))
 
 
-def layer_colours(patch: Patch, options, names: List[int]) -> List[str]:
-    """The colour of each layer: the given ones in order, or the usual one of each kind or turn."""
-    own = Colours(patch.rule).by.get(options.by)
+def layer_colours(patch: Patch, options: argparse.Namespace, names: List[int]) -> List[str]:
+    """The colour of each layer: the given ones in order, or the usual one of each kind or turn. A note says
+    where some are unused, or stand for several layers."""
+    own = colours_of(patch.rule).by.get(options.by)
     if own and not options.colours:
         return [own[name] for name in names]
-    given = options.colours or COLOURS
+    given = list(options.colours or COLOURS)
+    if options.colours and len(given) != len(names):
+        others = " or ".join(f"--by {by}" for by in BY if by != options.by)
+        told = (
+            f"{len(names)} of {len(given)} colours are used" if len(given) > len(names) else "colours repeat"
+        )
+        tell(f"{told}: by {options.by} this page has {len(names)} layers; try {others}")
     return [given[spot % len(given)] for spot in range(len(names))]
 
 
-def within(patch: Patch, page: Page, places: np.ndarray) -> np.ndarray:
+def within(patch: Patch, page: Page) -> np.ndarray:
     """Which tiles are partly on the page, by their boxes: bool (n,)."""
-    corners = patch.corners()
-    far = np.where((corners >= 0)[:, :, None], places[corners], np.nan)
-    low, high = np.nanmin(far, 1), np.nanmax(far, 1)
-    return (high > 0).all(1) & (low < (page.wide, page.high)).all(1)
+    spots, corners = page.places(patch, patch.vertices()), patch.corners()
+    # (a tile with fewer corners repeats one)
+    flat = np.where(corners >= 0, corners, corners[:, :1])
+    inside = np.ones(len(patch), bool)
+    for axis, most in enumerate((page.wide, page.high)):
+        along = spots[:, axis][flat]
+        inside &= (along.max(1) > EPSILON) & (along.min(1) < most - EPSILON)
+    return inside
 
 
-def shown(edges: np.ndarray, places: np.ndarray, page: Page) -> List[Tuple[int, int]]:
+def shown(edges: np.ndarray, spots: np.ndarray, page: Page) -> np.ndarray:
     """The edges that are partly on the page, by their boxes."""
-    low, high = np.minimum(*(places[edges[:, i]] for i in (0, 1))), np.maximum(
-        *(places[edges[:, i]] for i in (0, 1))
-    )
-    return [tuple(it) for it in edges[(high > 0).all(1) & (low < (page.wide, page.high)).all(1)].tolist()]
+    start, end = spots[edges[:, 0]], spots[edges[:, 1]]
+    low, high = np.minimum(start, end), np.maximum(start, end)
+    return edges[(high > 0).all(1) & (low < (page.wide, page.high)).all(1)]
 
 
-def apart(patch: Patch, tiles: np.ndarray, texts: List[str]) -> List[str]:
+def apart(patch: Patch, tiles: np.ndarray, texts: List[str]) -> Iterator[str]:
     """A path for each tile."""
-    corners, counts, turns = (
-        patch.corners()[tiles].tolist(),
-        patch.counts[tiles].tolist(),
-        patch.turns[tiles].tolist(),
-    )
-    return [
-        f'<path class="t{turn}" d="M{"L".join([texts[v] for v in loop[:count]])}Z"/>'
-        for loop, count, turn in zip(corners, counts, turns)
-    ]
+    columns = (patch.corners()[tiles].tolist(), patch.counts[tiles].tolist(), patch.turns[tiles].tolist())
+    for loop, count, turn in zip(*columns):
+        yield f'<path class="t{turn}" d="M{"L".join([texts[v] for v in loop[:count]])}Z"/>'
 
 
-def joined(patch: Patch, tiles: np.ndarray, texts: List[str]) -> List[str]:
+def joined(patch: Patch, tiles: np.ndarray, texts: List[str]) -> Iterator[str]:
     """One path around all of these tiles. If it is long, on a page of very many tiles, one path around each
     block of them."""
     near, inside = patch.neighbours(), np.zeros(len(patch) + 1, bool)
     found = [around(patch, near, inside, tiles, texts)]
     if len(found[0]) > MOST_TEXT and len(patch) > MOST_WHOLE:
         found = [around(patch, near, inside, part, texts) for part in blocks(patch.middles(), tiles)]
-    return [f'<path d="{text}"/>' for text in found]
+    return (element("path", d=text) for text in found)
 
 
 def blocks(middles: np.ndarray, tiles: np.ndarray) -> List[np.ndarray]:
@@ -316,12 +400,21 @@ def around(patch: Patch, near: np.ndarray, inside: np.ndarray, tiles: np.ndarray
     return "".join(out)
 
 
-def clipped_edges(patch: Patch, page: Page):
+def cut_page(patch: Patch, page: Page, options: argparse.Namespace) -> Iterator[str]:
+    """The page for a cutter, as SVG or DXF."""
+    edges, ends = clipped_edges(patch, page)
+    trails = strokes(edges)
+    tell(f"{len(edges)} edges in {len(trails)} strokes, each edge exactly once")
+    drawn = ([ends[v] for v in trail] for trail in trails)
+    yield from (dxf if options.to == "dxf" else cut_svg)(drawn, page)
+
+
+def clipped_edges(patch: Patch, page: Page) -> Tuple[List[Tuple[int, int]], List[Tuple[float, float]]]:
     """Each edge exactly once, clipped to the page: pairs of numbers of ends, and the ends in mm."""
-    places = page.places(patch, patch.vertices())
-    ends: List[Tuple[float, float]] = [tuple(it) for it in places.tolist()]
+    spots = page.places(patch, patch.vertices())
+    ends: List[Tuple[float, float]] = [(x, y) for x, y in spots.tolist()]
     edges = []
-    for a, b in shown(patch.edges(), places, page):
+    for a, b in shown(patch.edges(), spots, page).tolist():
         part = clipped(ends[a], ends[b], page.wide, page.high)
         if part is None:
             continue
@@ -331,72 +424,92 @@ def clipped_edges(patch: Patch, page: Page):
                 vertex = len(ends)
                 ends.append(end)
             pair.append(vertex)
-        edges.append(tuple(pair))
+        edges.append((pair[0], pair[1]))
     return edges, ends
 
 
-def clipped(a, b, wide: float, high: float) -> Optional[tuple]:
-    """The part of a segment that is on the page, or None (Y. Liang and B. Barsky)."""
+Spot = Tuple[float, float]
+
+
+def clipped(a: Spot, b: Spot, wide: float, high: float) -> Optional[Tuple[Spot, Spot]]:
+    """The part of a segment that is on the page, or None (Y. Liang and B. Barsky). One along a side of the
+    page is left out, as the frame is there."""
     (x, y), dx, dy, low, up = a, b[0] - a[0], b[1] - a[1], 0.0, 1.0
     for step, room in ((-dx, x), (dx, wide - x), (-dy, y), (dy, high - y)):
-        if abs(step) < 1e-12:
-            if room <= 0:  # (along a side of the page, where the frame is)
+        if abs(step) < EPSILON:
+            if room <= EPSILON:
                 return None
         elif step < 0:
             low = max(low, room / step)
         else:
             up = min(up, room / step)
-    if low >= up - 1e-9:
+    if low >= up - EPSILON:
         return None
-    at = lambda part: (x + part * dx, y + part * dy)
+
+    def at(part: float) -> Spot:
+        return x + part * dx, y + part * dy
+
     return a if low <= 0 else at(low), b if up >= 1 else at(up)
 
 
-def head(page: Page) -> List[str]:
+def head(page: Page) -> Iterator[str]:
     wide, high = number(page.wide), number(page.high)
-    size = f'width="{wide}mm" height="{high}mm" viewBox="0 0 {wide} {high}"'
-    rim = f'<rect width="{wide}" height="{high}"/>'
-    return [
-        '<svg xmlns="http://www.w3.org/2000/svg" '
-        f'xmlns:inkscape="http://www.inkscape.org/namespaces/inkscape" version="1.1" {size}>',
-        f'<defs><clipPath id="page">{rim}</clipPath></defs>',
-    ]
+    inkscape = {"xmlns:inkscape": "http://www.inkscape.org/namespaces/inkscape"}
+    yield root((0, 0, page.wide, page.high), f"{wide}mm", f"{high}mm", "1.1", **inkscape) + "\n"
+    clip = element("clipPath", element("rect", width=wide, height=high), id="page")
+    yield element("defs", clip) + "\n"
 
 
 def layer(name: str, label: str, style: str) -> str:
-    return f'<g inkscape:groupmode="layer" inkscape:label="{escaped(label)}" id="{name}" {style}>'
+    return f'<g inkscape:groupmode="layer" inkscape:label="{escaped(label)}" id="{name}" {style}>\n'
 
 
-def cut_svg(trails, page: Page) -> str:
+def cut_svg(trails: Iterable[List[Spot]], page: Page) -> Iterator[str]:
     texts = ("M" + "L".join(" ".join(pair) for pair in hundredths(np.array(trail))) for trail in trails)
     style = 'fill="none" stroke="{}" stroke-width="0.1" ' + ROUND
-    frame = f'<path d="M0 0H{number(page.wide)}V{number(page.high)}H0Z"/>'
-    return "\n".join(
-        [
-            *head(page),
-            layer("cut", "cut", style.format("#ff0000")),
-            *paths(texts),
-            "</g>",
-            layer("frame", "frame", style.format("#0000ff")),
-            frame,
-            "</g>",
-            "</svg>",
-            "",
-        ]
-    )
+    yield from head(page)
+    yield layer("cut", "cut", style.format("#ff0000"))
+    yield from lines(paths(texts))
+    yield "</g>\n" + layer("frame", "frame", style.format("#0000ff"))
+    yield element("path", d=f"M0 0H{number(page.wide)}V{number(page.high)}H0Z") + "\n</g>\n</svg>\n"
 
 
-DXF_HEAD = "0 SECTION 2 HEADER 9 $ACADVER 1 AC1009 9 $INSUNITS 70 4 0 ENDSEC 0 SECTION 2 ENTITIES"
+DXF_LAYERS = (("CUT", 1), ("FRAME", 5))  # red and blue
+CLOSED = 1
 
 
-def dxf(trails, page: Page) -> str:
-    """The same as polylines of DXF, R12, in mm, y upwards: layer CUT red, layer FRAME blue."""
-    lines = [[(x, page.high - y) for x, y in trail] for trail in trails]
-    rim = [(0.0, 0.0), (page.wide, 0.0), (page.wide, page.high), (0.0, page.high), (0.0, 0.0)]
-    out = DXF_HEAD.split()
-    for name, colour, points in [*(("CUT", "1", it) for it in lines), ("FRAME", "5", rim)]:
-        out += f"0 POLYLINE 8 {name} 62 {colour} 66 1 10 0 20 0 30 0".split()
-        for x, y in points:
-            out += f"0 VERTEX 8 {name} 10 {x:.4f} 20 {y:.4f} 30 0".split()
-        out += f"0 SEQEND 8 {name}".split()
-    return "\n".join([*out, "0", "ENDSEC", "0", "EOF", ""])
+def dxf_lines(*pairs: object) -> str:
+    """Pairs of a group code and a value, each in a line."""
+    return "".join(f"{word}\n" for word in pairs)
+
+
+def dxf_head(page: Page) -> str:
+    """The header, in mm, and the tables of line types and layers."""
+    out = dxf_lines(0, "SECTION", 2, "HEADER", 9, "$ACADVER", 1, "AC1009", 9, "$INSUNITS", 70, 4)
+    out += dxf_lines(9, "$MEASUREMENT", 70, 1, 9, "$EXTMIN", 10, 0.0, 20, 0.0, 30, 0.0)
+    out += dxf_lines(9, "$EXTMAX", 10, float(page.wide), 20, float(page.high), 30, 0.0, 0, "ENDSEC")
+    out += dxf_lines(0, "SECTION", 2, "TABLES", 0, "TABLE", 2, "LTYPE", 70, 1, 0, "LTYPE", 2, "CONTINUOUS")
+    out += dxf_lines(70, 64, 3, "Solid line", 72, 65, 73, 0, 40, 0.0, 0, "ENDTAB")
+    out += dxf_lines(0, "TABLE", 2, "LAYER", 70, len(DXF_LAYERS))
+    for name, colour in DXF_LAYERS:
+        out += dxf_lines(0, "LAYER", 2, name, 70, 0, 62, colour, 6, "CONTINUOUS")
+    return out + dxf_lines(0, "ENDTAB", 0, "ENDSEC", 0, "SECTION", 2, "ENTITIES")
+
+
+def dxf(trails: Iterable[List[Spot]], page: Page) -> Iterator[str]:
+    """The same as polylines of DXF, R12, in mm, y upwards: layer CUT red, layer FRAME blue. One that ends
+    where it begins is closed."""
+    yield dxf_head(page)
+    for trail in trails:
+        yield polyline("CUT", [(x, page.high - y) for x, y in trail])
+    wide, high = page.wide, page.high
+    yield polyline("FRAME", [(0.0, 0.0), (wide, 0.0), (wide, high), (0.0, high), (0.0, 0.0)])
+    yield dxf_lines(0, "ENDSEC", 0, "EOF")
+
+
+def polyline(name: str, trail: List[Spot]) -> str:
+    is_closed = len(trail) > 2 and trail[0] == trail[-1]
+    out = dxf_lines(0, "POLYLINE", 8, name, 66, 1, 70, CLOSED if is_closed else 0, 10, 0, 20, 0, 30, 0)
+    for x, y in trail[:-1] if is_closed else trail:
+        out += dxf_lines(0, "VERTEX", 8, name, 10, f"{x:.4f}", 20, f"{y:.4f}", 30, 0)
+    return out + dxf_lines(0, "SEQEND", 8, name)

@@ -1,0 +1,10 @@
+"""A patch as GeoJSON for maps, and its outline by shapely: tiles.geojson."""
+from pagnetuf import Tiling
+from shapely.geometry import shape
+from shapely.ops import unary_union
+
+tiles = Tiling("ab").window(half=(12, 9)).whole()
+with open("tiles.geojson", "w", encoding="utf-8") as file:
+    file.write(tiles.to_geojson())
+outline = unary_union([shape(it["geometry"]) for it in tiles.__geo_interface__["features"]])
+print(outline.geom_type, round(outline.area, 6) == round(tiles.area, 6))
