@@ -66,6 +66,7 @@ CALLS = {
     "verify": (STATUS, *(POINTER,) * 3, *(POINTER, SIZE) * 2, POINTER, POINTER),
     "call": (STATUS, *(ctypes.c_char_p, SIZE) * 2, *(POINTER, SIZE, POINTER) * 2),
 }
+SINGLE_CALLS = ("read_address", "write_address", "place", "neighbour")
 # those that the interface 2 has more
 MORE_CALLS = {
     "rule": (None, POINTER, POINTER),
@@ -115,6 +116,8 @@ class Library:
         try:
             loaded = ctypes.CDLL(path)
             self._take(loaded, CALLS)
+            # (a call on one tile takes less time than it takes to let other threads run meanwhile)
+            self._take(ctypes.PyDLL(path), {name: CALLS[name] for name in SINGLE_CALLS})
             if not ABI <= self.abi() <= LATEST_ABI:
                 raise NoEngine(f"{path} has the interface {self.abi()}, and this package needs {LATEST_ABI}")
             if self.abi() == LATEST_ABI:
@@ -136,9 +139,9 @@ def library_at(path: str) -> Library:
     return Library(path)
 
 
-class Scratch(threading.local):
-    """What a thread hands to calls on single tiles, made once: an address, a tile, a text, two numbers, and
-    pointers to them."""
+class Scratch:
+    """What is handed to calls on single tiles: an address, a tile, a text, three numbers, and pointers to
+    them."""
 
     def __init__(self) -> None:
         self.address, self.tile = (ctypes.c_uint8 * ADDRESS.itemsize)(), (ctypes.c_uint8 * TILE.itemsize)()
@@ -149,7 +152,14 @@ class Scratch(threading.local):
         self.to_back, self.to_part = ctypes.addressof(self.back), ctypes.addressof(self.part)
 
 
-SCRATCH = Scratch()
+class OwnScratch(threading.local):
+    """That of each thread, made once."""
+
+    def __init__(self) -> None:
+        self.scratch = Scratch()
+
+
+OWN = OwnScratch()
 
 
 class LibraryEngine(Engine):
@@ -230,7 +240,7 @@ class LibraryMachine(Machine):
 
     def _read(self, text: str) -> Optional[Scratch]:
         """The address of a text in the scratch of this thread, or None where it is none of this rule."""
-        scratch, line = SCRATCH, text.encode("utf-8", "surrogateescape")
+        scratch, line = OWN.scratch, text.encode("utf-8", "surrogateescape")
         status = self.library.read_address(self.handle, line, len(line), scratch.to_address)
         return scratch if status == OK else None
 
@@ -249,7 +259,7 @@ class LibraryMachine(Machine):
         if library.neighbour(self.handle, to, edge, scratch.to_back, scratch.to_part) != OK:
             return self.asked.neighbour(address, edge)
         library.write_address(to, scratch.to_text, LONGEST_TEXT, scratch.to_size)
-        return scratch.text.raw[: scratch.size.value].decode(), scratch.back.value
+        return ctypes.string_at(scratch.to_text, scratch.size.value).decode(), scratch.back.value
 
     def place_all(self, addresses: Addresses) -> np.ndarray:
         read, wrong = self._read_all(addresses, True)

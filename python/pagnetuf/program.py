@@ -5,7 +5,6 @@ The program is that which the variable TILING_PROGRAM names, or .tiling/program 
 this package, or the installed one, or `tiling` on the PATH. A call takes one to two milliseconds beside its
 work; a window's text is parsed in bulk by numpy."""
 import os
-import subprocess
 from typing import Any, Callable, Dict, List, Optional, Sequence, Tuple, Union
 
 import numpy as np
@@ -39,6 +38,8 @@ class ProgramEngine(Engine):
 
     def call(self, words: Sequence[str], given: bytes = b"") -> bytes:
         """What the program prints for these words and this standard input. A refusal is raised."""
+        import subprocess  # (which most users of the package never need)
+
         try:
             ran = subprocess.run(
                 [self.path, *words], input=given, stdout=subprocess.PIPE, stderr=subprocess.PIPE, check=False
