@@ -61,7 +61,8 @@ def read(name):
 
 def documents():
     """The names of all documents."""
-    return ["README.md", "CONTRIBUTING.md", "crates/README.md", "rules/README.md"] + sorted(f"docs/{name}" for name in os.listdir(f"{TOP}/docs") if name.endswith(".md"))
+    pages = sorted(f"{folder}/{name}" for folder in ("docs", "docs/made") for name in os.listdir(f"{TOP}/{folder}") if name.endswith(".md"))
+    return ["README.md", "CONTRIBUTING.md", "CHANGELOG.md", "SECURITY.md", "crates/README.md", "rules/README.md", *pages]
 
 
 def stand_in(folder):
@@ -210,13 +211,13 @@ def rule_files():
             continue
         wanted, glue = wanted.split("; glue ")
         tally.compare("rule files", f"rules/{name}", call(["check", "rule=-"], text.encode()), (wanted, 0))
-        tally.compare("rows of rule files", f"docs/TILINGS.md: {stem}, kinds", cells[4], re.search(r"kinds (\d+)", wanted)[1])
+        tally.compare("rows of rule files", f"docs/TILINGS.md: {stem}, kinds", cells[3], re.search(r"kinds (\d+)", wanted)[1])
         if tomllib:
             rule = tomllib.loads(text)
             tally.compare("rows of rule files", f"tests/rules.txt: {stem}, glue", glue, ", ".join(map(str, rule["glue"])) or "-")
             zeta = cmath.exp(2j * cmath.pi / rule["order"])
             factor = sum(a * zeta**i for i, a in enumerate(rule["lambda"]))
-            tally.compare("rows of rule files", f"docs/TILINGS.md: {stem}, factor", abs(factor - value(cells[3], zeta)) < 1e-9, True)
+            tally.compare("rows of rule files", f"docs/TILINGS.md: {stem}, factor", abs(factor - value(cells[2], zeta)) < 1e-9, True)
         has_comments = f"rules/{'commented/' * os.path.exists(f'{TOP}/rules/commented/{name}')}{name}"
         tally.compare("rule files", f"{has_comments} names its source", "\n# Source: " in read(has_comments), True)
         if os.path.exists(f"{TOP}/rules/commented/{name}"):
@@ -229,10 +230,10 @@ def rule_files():
 
 
 def rows_of_rules():
-    """The rows of docs/TILINGS.md about rule files, by their names: patch, cut, file, factor, kinds, periodic, N, is."""
+    """The rows of docs/TILINGS.md about rule files, by their names: pictures, file, factor, kinds, periodic, N, what."""
     found = {}
     for cells in rows(read("docs/TILINGS.md")):
-        link = re.match(r"\[(\w+)\]\(\.\./rules/(?:commented/)?\1\.toml\)$", cells[2]) if len(cells) == 8 else None
+        link = re.match(r"\[(\w+)\]\(\.\./rules/(?:commented/)?\1\.toml\)$", cells[1]) if len(cells) == 7 else None
         if link:
             found[link[1]] = cells
     return found
@@ -332,7 +333,7 @@ def links():
 def named_paths():
     """Each file or folder of the repository that a document names between backquotes is there; `*` stands for
     any name."""
-    path = re.compile(r"`((?:crates|docs|rules|tools|checks|python|include|tests)/[\w./*-]*\w[\w./*-]*)`")
+    path = re.compile(r"`((?:crates|docs|rules|tools|checks|python|include|tests|figures|packaging)/[\w./*-]*\w[\w./*-]*)`")
     made = re.compile(r"/out\b|/NAME\b")
     for name in documents():
         for target in sorted(set(path.findall(re.sub(r"^```.*?^```", "", read(name), flags=re.M | re.S)))):
@@ -382,7 +383,7 @@ def windows_told():
     files = {"chair": "chair", "p2": "penrose_p2", "p3": "penrose_p3", "ab": "ammann_beenker", "halfhex": "half_hex"}
     for name, tiles, whole in table(text, ["rule", "tiles", "whole tiles"]):
         rule = places.Rule(TOP, PROGRAM, quoted(name)[0])
-        half = int(rows_of_rules()[files[rule.name]][6])
+        half = int(rows_of_rules()[files[rule.name]][5])
         for what, glue, told in (("tiles", "no", tiles), ("whole tiles", "yes", whole)):
             if told:
                 got = int(rule.call("draw", "addr=0:", "at=0,0,0,0", f"half={half},{half}", "layers=census", f"glue={glue}")[-1].split()[1])
@@ -395,7 +396,7 @@ def windows_told():
 def largest_of_files():
     """The largest square window of each rule file is as docs/TILINGS.md says: it is drawn, and one wider isn't."""
     for name, cells in rows_of_rules().items():
-        text, half = read(f"rules/{name}.toml").encode(), int(cells[6])
+        text, half = read(f"rules/{name}.toml").encode(), int(cells[5])
         words = lambda n: ["draw", "rule=-", "addr=0:", "at=0,0,0,0", f"half={n},{n}", "layers=census"]  # noqa: E731
         got = call(words(half), text)[1], call(words(half + 1), text)[1]
         tally.compare("largest windows", f"docs/TILINGS.md: {name}", got, (0, 7))

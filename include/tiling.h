@@ -15,8 +15,9 @@
  * All else is tested and refused: no number, address or array of numbers makes a call do harm.
  *
  * A machine is only read, so any number of threads may use it at the same time. It stays until the process
- * ends. It takes 5 to 15 KB for a built-in rule, and up to 62 KB for a file of rules/. A program that opens
- * very many rule files, such as 100,000, should do so in child processes, with some thousands for each. */
+ * ends. It takes 5 to 15 KB for a built-in rule, and up to 62 KB for a file of rules/. A program with very many
+ * rule files, such as 100,000, should open them in child processes, with some thousands for each, or ask
+ * tiling_call about them, which keeps nothing. */
 #ifndef TILING_H
 #define TILING_H
 
@@ -27,8 +28,11 @@
 extern "C" {
 #endif
 
-/* The number of this header; tiling_abi() returns that of the library. */
-#define TILING_ABI 1
+/* The number of this header; tiling_abi() returns that of the library. It rises with each change that a caller
+ * can see: of a struct, of the parameters of a function, of what a status or another number means, and also
+ * where a function is new or gone. So where the two are equal, the library has every function of this header,
+ * and they mean what it says. */
+#define TILING_ABI 2
 
 typedef uint8_t tiling_status;
 enum {
@@ -126,6 +130,30 @@ typedef struct {
     uint8_t count;
 } tiling_vertex_star;
 
+/* An edge type of a rule. `mate` is the type of the same edge in the opposite direction. An edge of this type,
+ * inflated, is cut into `count` edges, 1 to 8, whose types `parts` has in order. */
+typedef struct {
+    uint8_t mate, count, parts[8];
+} tiling_edge_type;
+
+/* A kind of a rule. `edges` has the type of each edge, as many as the prototile has corners. The tiles that
+ * fill the inflated prototile are `child_count` `children`, 1 to 16, each at its place there. */
+typedef struct {
+    tiling_outline prototile;
+    tiling_tile children[16];
+    uint8_t edges[12], child_count;
+} tiling_kind;
+
+/* All the numbers of a rule: the inflation factor, the kinds, the edge types, the types of the edges along
+ * which halves are glued, the `format` that a rule file of it has, 1 or 2, and the order. Kinds and types are
+ * numbered from 0. In this struct and in those inside it, all numbers after the last of a list are 0. */
+typedef struct {
+    tiling_point factor;
+    tiling_kind kinds[16];
+    tiling_edge_type types[32];
+    uint8_t glue[16], format, order, kind_count, type_count, glue_count;
+} tiling_rule_numbers;
+
 /* A whole tile. `parts` is 2 for two glued halves, and 1 for a tile that is no half. Each part has its
  * address in the frame at the same index in `addrs`. If there is one part, all numbers of the second entry
  * are 0. */
@@ -135,7 +163,7 @@ typedef struct {
     uint8_t parts;
 } tiling_whole_tile;
 
-/* The number of the library's interface, which is TILING_ABI where header and library belong together. */
+/* The number of the library's interface: TILING_ABI, if header and library belong together. */
 uint32_t tiling_abi(void);
 
 /* ---- machines ------------------------------------------------------------------------------------------ */
@@ -164,6 +192,9 @@ uint8_t tiling_order(tiling_machine t);
 
 /* How many kinds the rule has, 1 to 16; they are numbered from 0. */
 uint8_t tiling_kinds(tiling_machine t);
+
+/* Fills in all the numbers of the rule, 17,144 bytes. It never fails. */
+void tiling_rule(tiling_machine t, tiling_rule_numbers *out);
 
 /* How many edges a kind has, 3 to 12, and as many corners.
  * BAD_WORDS: the rule has no such kind. */
@@ -255,6 +286,14 @@ tiling_status tiling_cover(tiling_machine t, const tiling_frame *frame, const ti
  * that meet the window. NO_MEMORY. */
 tiling_status tiling_glue(tiling_machine t, const tiling_frame *frame, const tiling_window *window,
                           tiling_whole_tile *wholes, size_t wholes_room, size_t *count);
+
+/* Which tiles of an array meet a window: `flags` takes 1 for each that does, and 0 for each other one. This is
+ * what it is for the tiles of tiling_cover: some point inside the window belongs to the tile. Of a tile only
+ * kind, turn and shift are read, so it need not be one of a frame.
+ * BAD_WORDS: the window's numbers; an entry that is no tile, as for tiling_corners; arrays of different
+ * lengths. */
+tiling_status tiling_meets_all(tiling_machine t, const tiling_tile *tiles, size_t tiles_count,
+                               const tiling_window *window, uint8_t *flags, size_t flags_count);
 
 /* The only tile of the frame that holds a point, with its address in the frame, at the least depth at which
  * the frame holds the point. A point on an edge belongs to exactly one of the tiles there.

@@ -97,6 +97,20 @@ export interface DrawOptions extends Frame, Box {
   whole?: boolean;
 }
 
+/** The numbers of a rule, as its rule file has them: docs/FORMATS.md, "The rule file". */
+export interface Rule {
+  order: 4 | 6 | 8 | 10;
+  format: 1 | 2;
+  /** The factor by which a supertile of one level is larger. */
+  factor: Point;
+  /** The types of the edges along which halves are glued. */
+  glue: number[];
+  /** Each edge type: that of the same edge in the opposite direction, and the types into which it is cut. */
+  types: { mate: number; parts: number[] }[];
+  /** Each kind: its corners, 4 numbers each; the type of each edge; and the tiles that fill it, inflated. */
+  kinds: { vertices: Int32Array; edges: number[]; children: Placed[] }[];
+}
+
 export type RefusalName =
   | "NotText" | "BadWords" | "RuleRefused" | "RuleTooLong" | "BadAddress" | "DepthLimit" | "CoordLimit" | "TooManyTiles"
   | "Outside" | "NoMemory" | "NoEdge" | "BadScript" | "NoVertex" | "StarTooBig" | "BadListing";
@@ -152,6 +166,8 @@ export declare class Tiling {
   /** Whether some kind is a half of a tile. */
   readonly hasHalves: boolean;
 
+  /** All the numbers of the rule. */
+  rule(): Rule;
   /** How many edges a kind has, and as many corners. Refusal BadWords. */
   edges(kind: number): number;
   /** The exact corners of a kind's prototile: 4 numbers each. Refusal BadWords. */
@@ -209,6 +225,9 @@ export declare class Tiling {
   /** Exactly the tiles that meet a window, each exactly once, by shift, turn and kind. Refusal BadWords, BadAddress,
    * DepthLimit; TooManyTiles above 200,000; CoordLimit far out, where another seed usually helps; NoMemory. */
   window(options?: WindowOptions): Window;
+  /** n: 1 for each tile that meets a window, 0 for each other one. It is what decides which tiles `window` has, for
+   * tiles of any frame. Of whole tiles it looks at the first halves alone. Refusal BadWords. */
+  meets(tiles: Patch | Omit<Listing, "addresses">, window?: Box): Uint8Array;
   /** The only tile of a frame that holds a point. Refusal BadWords, BadAddress, CoordLimit. */
   tileAt(point: PointLike, frame?: Frame): Named<string>;
   /** The tiles of a path across edges, the base first. The frame first grows to `grow` levels, 0 by default. Refusal

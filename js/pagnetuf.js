@@ -5,7 +5,7 @@
 // `Patch`, `Window` and `WholePatch` are what people use. A call writes its arguments into the scratch of its instance,
 // and a refusal is thrown as a `Refusal`, with the line that the command would print.
 
-const ABI = 1;
+const ABI = 2;
 const BUILT_IN = Object.freeze(["chair", "p2", "p3", "ab", "halfhex"]);
 const MOST_TILES = 200000;
 const MOST_DIGITS = 64;
@@ -37,9 +37,13 @@ const FAULTS = ["", "NoTile", "NotOfFrame", "Double", "Missing", "WrongPlace", "
 const MISSING = 4, NO_BACK = 255;
 
 // The sizes and places of the header's structs, in bytes
-const ADDRESS = 130, TILE = 40, WHOLE = 344, CROSSING = 3;
+const ADDRESS = 130, TILE = 40, WHOLE = 344, CROSSING = 3, EDGE_TYPE = 10, KIND = 1048, RULE = 17144;
 const IN_TILE = { status: 32, kind: 33, turn: 34, number: 35 };
 const IN_WHOLE = { second: TILE, address: 2 * TILE, other: 2 * TILE + ADDRESS, parts: 2 * TILE + 2 * ADDRESS };
+const IN_KIND = { children: 392, edges: 1032, childCount: 1044 };
+const IN_RULE = {
+  kinds: 32, types: 16800, glue: 17120, format: 17136, kindCount: 17138, typeCount: 17139, glueCount: 17140,
+};
 const IN_STAR = { addresses: 64 * TILE, count: 64 * (TILE + ADDRESS) };
 // The scratch of an instance: a place for each kind of argument and answer
 const LONGEST = 1024;
@@ -230,9 +234,8 @@ class Memory {
   }
 
   tile(at) {
-    const { words, bytes } = this, i = at >> 2;
-    const shift = [words[i], words[i + 2], words[i + 4], words[i + 6]];
-    return { kind: bytes[at + IN_TILE.kind], turn: bytes[at + IN_TILE.turn], shift };
+    const { bytes } = this;
+    return { kind: bytes[at + IN_TILE.kind], turn: bytes[at + IN_TILE.turn], shift: this.point(at) };
   }
 
   putWindow(at, point, half) {
@@ -242,10 +245,48 @@ class Memory {
     return at;
   }
 
+  point(at) {
+    const { words } = this, i = at >> 2;
+    return [words[i], words[i + 2], words[i + 4], words[i + 6]];
+  }
+
   // The corners of an outline: four numbers each.
   outline(at) {
     const { words } = this, i = at >> 2;
     return Int32Array.from({ length: 4 * this.bytes[at + 384] }, (_, part) => words[i + 2 * part]);
+  }
+
+  edgeType(at) {
+    const [mate, count] = this.bytes.subarray(at);
+    return { mate, parts: Array.from(this.copy(at + 2, count)) };
+  }
+
+  kind(at) {
+    const { bytes } = this, children = bytes[at + IN_KIND.childCount];
+    return {
+      vertices: this.outline(at),
+      edges: Array.from(this.copy(at + IN_KIND.edges, bytes[at + 384])),
+      children: Array.from({ length: children }, (_, i) => this.tile(at + IN_KIND.children + TILE * i)),
+    };
+  }
+
+  rule(at) {
+    const number = (name) => this.bytes[at + IN_RULE[name]];
+    return {
+      format: number("format"),
+      factor: this.point(at),
+      glue: Array.from(this.copy(at + IN_RULE.glue, number("glueCount"))),
+      types: Array.from({ length: number("typeCount") }, (_, i) => this.edgeType(at + IN_RULE.types + EDGE_TYPE * i)),
+      kinds: Array.from({ length: number("kindCount") }, (_, i) => this.kind(at + IN_RULE.kinds + KIND * i)),
+    };
+  }
+
+  // Writes tiles one after the other.
+  putTiles(at, { kinds, turns, shifts }) {
+    for (let i = 0; i < kinds.length; i++) {
+      const shift = [shifts[4 * i], shifts[4 * i + 1], shifts[4 * i + 2], shifts[4 * i + 3]];
+      this.putTile(at + TILE * i, { kind: kinds[i], turn: turns[i], shift });
+    }
   }
 }
 
@@ -510,6 +551,14 @@ export class Tiling {
     throw new Refusal(`${status} ${NAMES[status]}`);
   }
 
+  rule() {
+    const memory = this.#memory;
+    return memory.borrow([RULE], (at) => {
+      memory.calls.tiling_rule(this.#machine, at);
+      return { order: this.order, ...memory.rule(at) };
+    });
+  }
+
   // ---- kinds
 
   edges(kind) {
@@ -618,7 +667,7 @@ export class Tiling {
   }
 
   get factor() {
-    return [...(this.#factor ??= factorOf(this))];
+    return [...(this.#factor ??= this.rule().factor)];
   }
 
   // ---- addresses
@@ -842,6 +891,16 @@ export class Tiling {
     }
   }
 
+  meets(tiles, { at = [0, 0, 0, 0], half = [20, 12] } = {}) {
+    const memory = this.#memory, count = tiles.kinds.length, box = { at: fourOf(at, "at"), half: halfOf(half) };
+    return memory.borrow([TILE * count, count], (from, flags) => {
+      memory.putTiles(from, tiles);
+      const status = memory.calls.tiling_meets_all(this.#machine, from, count, this.#putBox(box), flags, count);
+      if (status) this.#refuse(status);
+      return memory.copy(flags, count);
+    });
+  }
+
   tileAt(point, { base = "0:", seed = 0 } = {}) {
     const memory = this.#memory, tile = memory.place("tile"), address = memory.place("address");
     const at = memory.putPoint(memory.place("point"), fourOf(point, "a point"));
@@ -888,13 +947,10 @@ export class Tiling {
     return Number(this.engine.call(["verify", ...words.slice(1)], listing).split(" ")[1]);
   }
 
-  #verifyTiles({ kinds, turns, shifts, addresses }, box) {
-    const memory = this.#memory, names = this.#bytesOf(addresses), count = kinds.length;
+  #verifyTiles(listing, box) {
+    const memory = this.#memory, names = this.#bytesOf(listing.addresses), count = listing.kinds.length;
     return memory.borrow([TILE * count, names.length], (tiles, named) => {
-      for (let i = 0; i < count; i++) {
-        const shift = [shifts[4 * i], shifts[4 * i + 1], shifts[4 * i + 2], shifts[4 * i + 3]];
-        memory.putTile(tiles + TILE * i, { kind: kinds[i], turn: turns[i], shift });
-      }
+      memory.putTiles(tiles, listing);
       memory.bytes.set(names, named);
       const slot = memory.place("slot"), given = [this.#machine, this.#putFrame(box.base, box.seed), this.#putBox(box)];
       const status = memory.calls.tiling_verify(...given, tiles, count, named, names.length / ADDRESS, slot, slot + 8);
@@ -919,46 +975,6 @@ export class Tiling {
 const edgesOf = (list) => (isBytes(list) ? list : Uint8Array.from(list, (edge) => small(edge, "an edge")));
 const walkWords = (grow, path) => [`grow=${grow}`, ...(path.length ? [`path=${Array.from(path).join()}`] : [])];
 const faultLine = (fault, index) => `17 BadListing ${FAULTS[fault]}${fault === MISSING ? "" : ` ${index}`}`;
-
-// The factor of a rule, by two children one inside the other: a digit more multiplies where the tile lies by it.
-function factorOf(tiling) {
-  const kinds = Array.from({ length: tiling.kinds }, (_, kind) => kind);
-  const kindOf = (digit) => kinds.find((kind) => tiling.fits({ kind, digits: [digit] }));
-  for (let parent = 0; parent < tiling.kinds; parent++) {
-    for (let child = 0; child < 256; child++) {
-      const digit = { child, parent }, kind = kindOf(digit);
-      if (kind === undefined) break;
-      const upper = tiling.place({ kind, digits: [digit] });
-      if (!upper.shift.some((part) => part)) continue;
-      const first = { child: 0, parent: kind }, inner = kindOf(first);
-      const both = tiling.place({ kind: inner, digits: [first, digit] });
-      const moved = tiling.turnedPoint(tiling.place({ kind: inner, digits: [first] }).shift, upper.turn);
-      return quotient(tiling, both.shift.map((part, i) => part - moved[i]), upper.shift);
-    }
-  }
-  throw new Error("no child of the rule is moved");
-}
-
-// The point that times `b` is `a`: by elimination in floats, rounded, and then tested.
-function quotient(tiling, a, b) {
-  const size = tiling.order < 8 ? 2 : 4;
-  const rows = Array.from({ length: size }, (_, k) => tiling.turnedPoint(b, k));
-  const matrix = Array.from({ length: size }, (_, i) => [...rows.map((row) => row[i]), a[i]]);
-  for (let column = 0; column < size; column++) {
-    const size = (row) => Math.abs(row[column]);
-    const best = matrix.slice(column).reduce((a, b) => (size(b) > size(a) ? b : a));
-    matrix.splice(matrix.indexOf(best), 1);
-    matrix.splice(column, 0, best);
-    for (const row of matrix) {
-      if (row === best) continue;
-      const share = row[column] / best[column];
-      row.forEach((_, i) => (row[i] -= share * best[i]));
-    }
-  }
-  const found = [0, 0, 0, 0].map((_, i) => (i < size ? Math.round(matrix[i][size] / matrix[i][i]) + 0 : 0));
-  if (tiling.product(b, found).some((part, i) => part !== a[i])) throw new Error("the rule's factor was not found");
-  return found;
-}
 
 // ---- patches ----------------------------------------------------------------------------------------------------
 

@@ -115,6 +115,84 @@ static void try_rule(void) {
     }
 }
 
+/* all the numbers of the rules of the chair and of Ammann and Beenker, as their rule files have them */
+static void try_numbers(void) {
+    static const uint8_t chair_child[4][4] = {{0, 0, 0, 0}, {0, 0, 1, 1}, {0, 1, 4, 0}, {0, 3, 0, 4}};
+    static const uint8_t ab_types[4][5] = {{1, 2, 0, 2}, {0, 2, 3, 1}, {3, 3, 0, 3, 1}, {2, 3, 0, 2, 1}};
+    static const uint8_t ab_edges[3][4] = {{0, 1, 0, 1}, {2, 0, 0}, {1, 1, 3}};
+    static const int8_t ab_last[3][6] = {{2, 1, 0, 1, 0, 0}, {0, 1, 1, 0, 0, 0}, {0, 6, 1, 0, 0, 0}};
+    static tiling_rule_numbers rule;
+    memset(&rule, 7, sizeof rule);
+    tiling_rule(opened("chair"), &rule);
+    EXPECT(rule.format == 1 && rule.order == 4 && rule.factor.c[0] == 2 && rule.factor.c[1] == 0);
+    EXPECT(rule.kind_count == 1 && rule.type_count == 1 && rule.glue_count == 0 && rule.glue[0] == 0);
+    EXPECT(rule.types[0].mate == 0 && rule.types[0].count == 2 && rule.types[0].parts[1] == 0);
+    EXPECT(rule.kinds[0].prototile.count == 8 && rule.kinds[0].child_count == 4);
+    for (int i = 0; i < 4; i++) {
+        const uint8_t *child = chair_child[i];
+        EXPECT(lies(&rule.kinds[0].children[i], child[0], child[1], child[2], child[3], 0, 0));
+    }
+    EXPECT(lies(&rule.kinds[0].children[4], 0, 0, 0, 0, 0, 0) && rule.kinds[1].child_count == 0);
+    memset(&rule, 7, sizeof rule);
+    tiling_rule(opened("ab"), &rule);
+    static const int64_t silver[4] = {1, 1, 0, -1};
+    EXPECT(rule.format == 1 && rule.order == 8 && memcmp(rule.factor.c, silver, sizeof silver) == 0);
+    EXPECT(rule.kind_count == 3 && rule.type_count == 4 && rule.glue_count == 1 && rule.glue[0] == 2);
+    for (int i = 0; i < 4; i++) {
+        EXPECT(rule.types[i].mate == ab_types[i][0] && rule.types[i].count == ab_types[i][1]);
+        EXPECT(memcmp(rule.types[i].parts, &ab_types[i][2], 3) == 0 && rule.types[i].parts[3] == 0);
+    }
+    for (int i = 0; i < 3; i++) {
+        const tiling_kind *kind = &rule.kinds[i];
+        const int8_t *last = ab_last[i];
+        EXPECT(kind->prototile.count == (i ? 3 : 4) && memcmp(kind->edges, ab_edges[i], 4) == 0);
+        EXPECT(kind->child_count == (i ? 5 : 7));
+        EXPECT(lies(&kind->children[i ? 4 : 5], last[0], last[1], last[2], last[3], last[4], last[5]));
+    }
+    tiling_rule(opened("halfhex"), &rule);
+    EXPECT(rule.format == 2 && rule.order == 6 && rule.types[1].mate == 0 && rule.kinds[1].child_count == 0);
+}
+
+/* a type is a glue type or the mate of one */
+static int is_glued(const tiling_rule_numbers *rule, int type) {
+    for (int i = 0; i < rule->glue_count; i++)
+        if (type == rule->glue[i] || type == rule->types[rule->glue[i]].mate) return 1;
+    return 0;
+}
+
+/* what the numbers of a rule say, other calls say too */
+static void try_same_rule(const char *name) {
+    static tiling_rule_numbers rule;
+    tiling_machine machine = opened(name);
+    memset(&rule, 7, sizeof rule);
+    tiling_rule(machine, &rule);
+    EXPECT(rule.order == tiling_order(machine) && rule.kind_count == tiling_kinds(machine));
+    for (uint8_t kind = 0; kind < 16; kind++) {
+        const tiling_kind *own = &rule.kinds[kind];
+        tiling_outline outline;
+        uint8_t glued = 99, edge;
+        memset(&outline, 0, sizeof outline);
+        tiling_status status = tiling_prototile(machine, kind, &outline);
+        EXPECT(status == (kind < rule.kind_count ? TILING_OK : TILING_BAD_WORDS));
+        EXPECT(own->prototile.count == outline.count);
+        EXPECT(memcmp(own->prototile.corners, outline.corners, sizeof outline.corners) == 0);
+        for (edge = 0; edge < outline.count && !is_glued(&rule, own->edges[edge]); edge++) continue;
+        status = tiling_glue_edge(machine, kind, &glued);
+        EXPECT(status == TILING_OK ? glued == edge : edge == outline.count);
+        for (uint8_t child = 0; child < 16; child++) {
+            tiling_address addr;
+            tiling_tile tile;
+            memset(&addr, 0, sizeof addr);
+            memset(&tile, 0, sizeof tile);
+            addr.kind = own->children[child].kind, addr.depth = 1;
+            addr.digits[0].child = child, addr.digits[0].parent = kind;
+            status = tiling_place(machine, &addr, &tile);
+            EXPECT((status == TILING_OK) == (child < own->child_count));
+            EXPECT(memcmp(&own->children[child], &tile, sizeof tile) == 0);
+        }
+    }
+}
+
 static void try_addresses(void) {
     tiling_machine chair = opened("chair");
     tiling_address addr = address(chair, "0:1/0,2/0"), before;
@@ -245,6 +323,75 @@ static void try_cover(void) {
     window.w = window.h = 4096;
     EXPECT(tiling_cover(chair, &frame, &window, tiles, 4, addrs, 4, &count) == TILING_TOO_MANY_TILES
            && count == 77);
+}
+
+/* chairs of 2 by 2 without the quarter that ends at (2, 2); X is twice x, and Y is y */
+static void try_meets(void) {
+    tiling_machine chair = opened("chair");
+    static const struct {
+        int x, y, meets;
+    } rows[] = {
+        /* the window is 0 < x < 2, 0 < y < 2 */
+        {0, 0, 1}, {1, 1, 1}, {0, -1, 1}, {1, -1, 1}, {0, 1, 1}, {-1, 1, 1},
+        {2, 0, 0}, {-2, 0, 0}, {0, -2, 0}, {0, 2, 0}, {-1, -1, 0}, {1000000, 0, 0},
+    };
+    enum { MANY = sizeof rows / sizeof *rows };
+    tiling_tile tiles[MANY];
+    uint8_t flags[MANY], kept[MANY];
+    tiling_window window = {{1, 1, 0, 0}, 2, 1};
+    memset(tiles, 0, sizeof tiles);
+    memset(flags, 7, sizeof flags);
+    for (int i = 0; i < MANY; i++) tiles[i].shift[0] = rows[i].x, tiles[i].shift[1] = rows[i].y;
+    EXPECT(tiling_meets_all(chair, tiles, MANY, &window, flags, MANY) == TILING_OK);
+    for (int i = 0; i < MANY; i++) EXPECT(flags[i] == rows[i].meets);
+    /* 3/2 < x < 5/2, 1 < y < 3: in the first chair's lacking quarter, and beyond it */
+    tiling_window corner = {{2, 2, 0, 0}, 1, 1};
+    EXPECT(tiling_meets_all(chair, tiles, 2, &corner, flags, 2) == TILING_OK && !flags[0] && flags[1]);
+    EXPECT(tiling_meets_all(chair, tiles, 0, &window, flags, 0) == TILING_OK && flags[0] == 0);
+    memcpy(kept, flags, sizeof kept);
+    EXPECT(tiling_meets_all(chair, tiles, MANY, &window, flags, 3) == TILING_BAD_WORDS);
+    window.h = 0;
+    EXPECT(tiling_meets_all(chair, tiles, MANY, &window, flags, MANY) == TILING_BAD_WORDS);
+    window.h = 1, window.at[2] = 1048577;
+    EXPECT(tiling_meets_all(chair, tiles, MANY, &window, flags, MANY) == TILING_BAD_WORDS);
+    window.at[2] = 0, tiles[MANY - 1].kind = 1;
+    EXPECT(tiling_meets_all(chair, tiles, MANY, &window, flags, MANY) == TILING_BAD_WORDS);
+    tiles[MANY - 1].kind = 0, tiles[MANY - 1].turn = 4;
+    EXPECT(tiling_meets_all(chair, tiles, MANY, &window, flags, MANY) == TILING_BAD_WORDS);
+    tiles[MANY - 1].turn = 3, tiles[MANY - 1].shift[0] = 16777217;
+    EXPECT(tiling_meets_all(chair, tiles, MANY, &window, flags, MANY) == TILING_BAD_WORDS);
+    tiles[MANY - 1].shift[0] = 0, tiles[MANY - 1].shift[3] = 1;
+    EXPECT(tiling_meets_all(chair, tiles, MANY, &window, flags, MANY) == TILING_BAD_WORDS);
+    EXPECT(memcmp(flags, kept, sizeof flags) == 0);
+}
+
+/* of the tiles of one window, those that meet another are those that the other window has, too */
+static void try_two_windows(const char *name, uint64_t seed) {
+    enum { ROOM = 4000 };
+    static tiling_tile tiles[2][ROOM];
+    static uint8_t flags[ROOM];
+    tiling_address none;
+    tiling_machine machine = opened(name);
+    tiling_window windows[2] = {{{3, -2, 0, 0}, 13, 9}, {{11, 1, 0, 0}, 7, 12}};
+    tiling_frame frame;
+    size_t counts[2], met = 0, common = 0;
+    memset(&frame, 0, sizeof frame);
+    frame.seed = seed;
+    for (int i = 0; i < 2; i++) {
+        EXPECT(tiling_cover(machine, &frame, &windows[i], tiles[i], ROOM, &none, 0, &counts[i]) == TILING_OK);
+        EXPECT(counts[i] > 20 && counts[i] <= ROOM);
+        EXPECT(tiling_meets_all(machine, tiles[i], counts[i], &windows[i], flags, counts[i]) == TILING_OK);
+        for (size_t j = 0; j < counts[i]; j++) EXPECT(flags[j] == 1);
+    }
+    EXPECT(tiling_meets_all(machine, tiles[0], counts[0], &windows[1], flags, counts[0]) == TILING_OK);
+    for (size_t i = 0; i < counts[0]; i++) {
+        int is_there = 0;
+        for (size_t j = 0; j < counts[1]; j++)
+            is_there |= memcmp(&tiles[0][i], &tiles[1][j], sizeof **tiles) == 0;
+        EXPECT(flags[i] == is_there);
+        met += flags[i], common += is_there;
+    }
+    EXPECT(met == common && met > 0 && met < counts[0]);
 }
 
 /* the first four coefficients of a corner are these */
@@ -661,10 +808,17 @@ int main(int many, char **words) {
     try_machines();
     if (many > 1) try_files(words[1]);
     try_rule();
+    try_numbers();
+    static const char *const names[] = {"chair", "p2", "p3", "ab", "halfhex"};
+    for (size_t i = 0; i < sizeof names / sizeof *names; i++) {
+        try_same_rule(names[i]);
+        for (uint64_t seed = 0; seed < 5; seed++) try_two_windows(names[i], seed);
+    }
     try_addresses();
     try_place();
     try_neighbour();
     try_cover();
+    try_meets();
     try_glue();
     try_shapes();
     try_pair();

@@ -120,6 +120,11 @@ static void try_window(tiling_machine machine) {
     memcpy(kept, tiles, room * sizeof *tiles);
     count(status = tiling_cover(machine, frame, window, tiles, room, addrs, others, number));
     if (status) same(tiles, kept, room * sizeof *tiles, "tiling_cover");
+    uint8_t *flags = block(room);
+    size_t found = status ? 0 : *number < room ? *number : room;
+    if (!status && tiling_meets_all(machine, tiles, found, window, flags, found)) exit(1);
+    for (size_t i = 0; i < found; i++) if (flags[i] != 1) exit(1);
+    free(flags);
     size_t held = status || !others ? any() % (others + 1) : *number < room ? *number : room, index = 7777;
     uint8_t fault = 99;
     held = held < room ? held : room;
@@ -141,6 +146,19 @@ static void try_window(tiling_machine machine) {
     free(kept);
     free(addrs);
     free(number);
+}
+
+/* the numbers of a rule, in a block of their own; those behind its lists are 0 */
+static void try_rule(tiling_machine machine) {
+    tiling_rule_numbers *rule = block(sizeof *rule);
+    static const tiling_kind no_kind;
+    fill(rule, sizeof *rule);
+    tiling_rule(machine, rule);
+    if (rule->order != tiling_order(machine) || rule->kind_count != tiling_kinds(machine)) exit(1);
+    const tiling_kind *last = &rule->kinds[15];
+    same(last->children, no_kind.children, sizeof no_kind.children, "tiling_rule");
+    same(last->edges, no_kind.edges, sizeof no_kind.edges, "tiling_rule");
+    free(rule);
 }
 
 static int64_t coefficient(int64_t reach) {
@@ -200,6 +218,38 @@ static void try_point(tiling_machine machine) {
     free(point);
     free(addr);
     free(frame);
+}
+
+/* tiles of which some are none, and windows of which some are none */
+static void try_meeting(tiling_machine machine) {
+    size_t many = any() % 12, others = any() % 8 ? many : any() % 12;
+    tiling_tile *tiles = block(many * sizeof *tiles);
+    tiling_window *window = block(sizeof *window);
+    uint8_t *flags = block(others), *kept = block(others);
+    int64_t reach = any() % 3 ? 40 : 1048580;
+    fill(tiles, many * sizeof *tiles);
+    fill(window, sizeof *window);
+    fill(flags, others);
+    memcpy(kept, flags, others);
+    for (size_t i = 0; i < many; i++) {
+        if (any() % 32) tiles[i].kind = any() % (tiling_kinds(machine) + (any() % 8 == 0));
+        if (any() % 32) tiles[i].turn = any() % tiling_order(machine);
+        for (int j = 0; j < 4; j++)
+            tiles[i].shift[j] = any() % 64 == 0 ? (int64_t)any() : j < 2 ? (int64_t)(any() % 80) - 40 : 0;
+    }
+    for (int i = 0; i < 4; i++)
+        window->at[i] = any() % 64 ? (int64_t)(any() % (2 * reach)) - reach : (int64_t)any();
+    if (any() % 8) window->w = any() % 50;
+    if (any() % 8) window->h = any() % 50;
+    int status = tiling_meets_all(machine, tiles, many, window, flags, others);
+    count(status);
+    if (status) same(flags, kept, others, "tiling_meets_all");
+    if (many != others && status != TILING_BAD_WORDS) exit(1);
+    for (size_t i = 0; i < others && !status; i++) if (flags[i] > 1) exit(1);
+    free(tiles);
+    free(window);
+    free(flags);
+    free(kept);
 }
 
 static void try_path(tiling_machine machine) {
@@ -317,6 +367,8 @@ int main(int many, char **words) {
         if (round % 20 == 2) try_point(machine);
         if (round % 20 == 3) try_path(machine);
         if (round % 10 == 4) try_many(machine);
+        if (round % 10 == 5) try_meeting(machine);
+        if (round % 100 == 6) try_rule(machine);
         if (round % 50 == 0) try_window(machine);
         if (round % 50 == 1) try_command();
     }

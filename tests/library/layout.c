@@ -54,6 +54,28 @@ PLACE(tiling_vertex_star, tiles, 0);
 PLACE(tiling_vertex_star, addrs, 2560);
 PLACE(tiling_vertex_star, count, 10880);
 
+SIZE(tiling_edge_type, 10);
+PLACE(tiling_edge_type, mate, 0);
+PLACE(tiling_edge_type, count, 1);
+PLACE(tiling_edge_type, parts, 2);
+
+SIZE(tiling_kind, 1048);
+PLACE(tiling_kind, prototile, 0);
+PLACE(tiling_kind, children, 392);
+PLACE(tiling_kind, edges, 1032);
+PLACE(tiling_kind, child_count, 1044);
+
+SIZE(tiling_rule_numbers, 17144);
+PLACE(tiling_rule_numbers, factor, 0);
+PLACE(tiling_rule_numbers, kinds, 32);
+PLACE(tiling_rule_numbers, types, 16800);
+PLACE(tiling_rule_numbers, glue, 17120);
+PLACE(tiling_rule_numbers, format, 17136);
+PLACE(tiling_rule_numbers, order, 17137);
+PLACE(tiling_rule_numbers, kind_count, 17138);
+PLACE(tiling_rule_numbers, type_count, 17139);
+PLACE(tiling_rule_numbers, glue_count, 17140);
+
 SIZE(tiling_whole_tile, 344);
 PLACE(tiling_whole_tile, tiles, 0);
 PLACE(tiling_whole_tile, addrs, 80);

@@ -127,7 +127,20 @@ static long verify_each(tiling_machine machine) {
     return refused - 2;
 }
 
-/* a refused rule file: its line takes memory, too */
+/* the numbers of a rule, and which tiles meet a window, take no memory */
+static void take_none(tiling_machine machine) {
+    static tiling_rule_numbers rule;
+    static tiling_tile tile;
+    tiling_window window = {{0, 0, 0, 0}, 8, 8};
+    uint8_t flag = 7;
+    asked = 0, refused = 1;
+    tiling_rule(machine, &rule);
+    tiling_status status = tiling_meets_all(machine, &tile, 1, &window, &flag, 1);
+    expect(status == TILING_OK && flag == 1, "tiling_meets_all");
+    expect(asked == 0, "malloc was called");
+}
+
+/* a refused rule file */
 static long refuse_each(void) {
     tiling_status status = TILING_NO_MEMORY;
     for (refused = 1; status == TILING_NO_MEMORY; refused++) {
@@ -144,22 +157,26 @@ static long refuse_each(void) {
     return refused - 2;
 }
 
-/* the command, with an answer and with a refusal */
+/* the command, with an answer and with a refusal; it does without some blocks */
 static long call_each(const char *words, int last) {
-    tiling_status status = TILING_NO_MEMORY;
-    for (refused = 1; status == TILING_NO_MEMORY; refused++) {
+    long all = 0, none = 0;
+    for (refused = 0; refused <= all; refused++) {
         long before = blocks;
-        uint8_t out[512] = {0}, none = 0;
+        uint8_t out[512] = {0}, input = 0;
         char note[128] = "";
         size_t count = 77, noted = 77;
         asked = 0;
-        status = tiling_call(words, strlen(words), &none, 0, out, sizeof out, &count, note, sizeof note,
-                             &noted);
+        tiling_status status = tiling_call(words, strlen(words), &input, 0, out, sizeof out, &count, note,
+                                           sizeof note, &noted);
         expect(blocks == before, "a block was kept");
-        expect(status == last || (count == 77 && noted == 77 && !out[0] && !note[0]), "tiling_call");
+        if (!refused) all = asked;
+        if (!refused) expect(status == last && all > 0, "the status");
+        if (status == last) continue;
+        none++;
+        expect(status == TILING_NO_MEMORY && count == 77 && noted == 77 && !out[0] && !note[0], "tiling_call");
     }
-    expect(status == last, "the last status");
-    return refused - 2;
+    expect(2 * none > all, "NO_MEMORY came too rarely");
+    return all;
 }
 
 int main(void) {
@@ -168,6 +185,7 @@ int main(void) {
         tiling_machine machine;
         long opening = open_each(names[i], &machine), covering = cover_each(machine);
         long gluing = glue_each(machine), verifying = verify_each(machine);
+        take_none(machine);
         expect(opening > 0 && covering > 0 && gluing > 0 && verifying > 0, "no call of malloc");
         printf("%s: %ld calls of malloc at opening, %ld at covering, %ld at gluing, %ld at verifying\n",
                names[i], opening, covering, gluing, verifying);

@@ -257,6 +257,45 @@ test("factors", () => {
   }
 });
 
+// The numbers of a rule file: all lists that a key has, in their order.
+function numbersOf(text) {
+  const found = {}, plain = text.replace(/#.*$/gm, "");
+  for (const [, key, value] of plain.matchAll(/^(\w+)\s*=\s*([^=]*?)\s*(?=^\w+\s*=|^\[|(?![\s\S]))/gm)) {
+    (found[key] ??= []).push(JSON.parse(value.replace(/,(\s*\])/g, "$1")));
+  }
+  return found;
+}
+
+test("the numbers of each rule are those of its file", () => {
+  for (const name of readdirSync(new URL("rules/", top)).filter((it) => it.endsWith(".toml"))) {
+    const text = ruleText(name.slice(0, -5)), rule = engine.open(text).rule(), file = numbersOf(text);
+    assert.deepEqual([[rule.format], [rule.order], [rule.factor]], [file.format, file.order, file.lambda], name);
+    assert.deepEqual([[rule.glue], rule.types.map((it) => it.mate)], [file.glue, file.mate], name);
+    assert.deepEqual(rule.types.map((it) => it.parts), file.parts, name);
+    assert.deepEqual(rule.kinds.map((it) => it.edges), file.edges, name);
+    assert.deepEqual(rule.kinds.map((it) => Array.from(it.vertices)), file.vertices.map((it) => it.flat()), name);
+    const children = rule.kinds.map((it) => it.children.map(({ kind, turn, shift }) => [kind, turn, ...shift]));
+    assert.deepEqual(children, file.children, name);
+  }
+  assert.deepEqual(p3.rule().kinds[2].children[1], { kind: 3, turn: 0, shift: [0, 0, 1, -1] });
+  assert.deepEqual(Object.keys(p3.rule()), ["order", "format", "factor", "glue", "types", "kinds"]);
+});
+
+test("which tiles of one window meet another: those that the other has, too", () => {
+  const name = (patch, i) => JSON.stringify(patch.tile(i));
+  for (const tiling of [chair, p2, p3, ab, halfhex]) {
+    const box = { at: [9, 3, 0, 0], half: [8, 11] }, first = tiling.window({ seed: 4 }), second = tiling.window({ seed: 4, ...box });
+    const there = new Set(Array.from({ length: second.length }, (_, i) => name(second, i)));
+    const flags = tiling.meets(first, box);
+    flags.forEach((flag, i) => assert.equal(flag, Number(there.has(name(first, i)))));
+    assert.ok(flags.includes(0) && flags.includes(1));
+    assert.ok(tiling.meets(second, box).every((flag) => flag === 1));
+    assert.equal(refusalOf(() => tiling.meets(first, { half: [0, 1] })), "2 BadWords");
+    assert.equal(refusalOf(() => tiling.meets({ kinds: [99], turns: [0], shifts: [0, 0, 0, 0] })), "2 BadWords");
+  }
+  assert.throws(() => chair.meets({ kinds: [0], turns: [0], shifts: [0, 0.5, 0, 0] }), TypeError);
+});
+
 test("supertiles: each tile lies in one, whose area is that of its tiles", () => {
   const sphinx = engine.open(ruleText("sphinx")), turned = engine.open(ruleText("half_square_two"));
   for (const [tiling, level] of [[chair, 1], [chair, 3], [p3, 2], [p2, 3], [ab, 1], [halfhex, 2], [sphinx, 2], [turned, 3]]) {

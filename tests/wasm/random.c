@@ -11,7 +11,7 @@ enum { MACHINES = 128, POOL = 48, MOST = 300, STARS = 64 };
 #define FUNCTIONS(X) \
     X(abi) X(open) X(open_file) X(share) X(order) X(kinds) X(edges) X(prototile) X(glue_edge) X(corners) X(read_address) \
     X(write_address) X(fits) X(place) X(neighbour) X(pair) X(locate) X(place_all) X(neighbour_all) X(cover) X(glue) \
-    X(at) X(walk) X(star) X(verify) X(call)
+    X(at) X(walk) X(star) X(verify) X(call) X(rule) X(meets_all)
 #define NUMBERED(name) F_##name,
 enum { FUNCTIONS(NUMBERED) F_COUNT };
 #define NAMED(name) "tiling_" #name,
@@ -92,6 +92,7 @@ static tiling_crossing crossings[64];
 static tiling_vertex_star star;
 static tiling_outline outline;
 static tiling_relation relation;
+static tiling_rule_numbers rule;
 static tiling_frame frame;
 static tiling_window window;
 static tiling_tile tile, top;
@@ -191,6 +192,19 @@ static void try_numbers(void) {
     fill(&outline, 3, sizeof outline);
     counted(F_prototile, tiling_prototile(machine(), kind(), &outline));
     mix_bytes(&outline, sizeof outline);
+}
+
+static void try_rule(void) {
+    fill(&rule, 3, sizeof rule);
+    tiling_rule(machine(), &rule);
+    counted(F_rule, TILING_OK);
+    mix_bytes(&rule.factor, sizeof rule.factor);
+    for (int i = 0; i < LENGTH(rule.kinds); i++) {
+        mix_bytes(&rule.kinds[i].prototile, 385);
+        mix_bytes(rule.kinds[i].children, sizeof rule.kinds[i].children);
+        mix_bytes(rule.kinds[i].edges, 13);
+    }
+    mix_bytes(rule.types, sizeof rule.types + sizeof rule.glue + 5);
 }
 
 static void try_glue_edge(void) {
@@ -294,6 +308,19 @@ static void try_arrays(void) {
     counted(F_neighbour_all, tiling_neighbour_all(machine(), addrs, count, edges, count, crossings, more));
     mix_bytes(addrs, count * sizeof *addrs);
     mix_bytes(crossings, sizeof crossings);
+}
+
+static void try_meets(void) {
+    size_t count = below(20), more = rarely(9) ? below(20) : count;
+    for (size_t i = 0; i < count; i++) {
+        any_tile(&tiles[i], 12);
+        tiles[i].kind = (uint8_t)(rarely(200) ? any() : below(tiling_kinds(machine())));
+        tiles[i].turn = (uint8_t)(rarely(200) ? any() : below(tiling_order(machine())));
+    }
+    any_window(12);
+    fill(edges, 7, sizeof edges);
+    counted(F_meets_all, tiling_meets_all(machine(), tiles, count, &window, edges, more));
+    mix_bytes(edges, sizeof edges);
 }
 
 static int covered(size_t room, size_t named) {
@@ -487,7 +514,7 @@ static void open_all(void) {
 static void try_one(void) {
     static void (*const calls[])(void) = {
         try_share, try_numbers, try_glue_edge, try_corners, try_texts, try_fits, try_place, try_neighbour, try_pair, try_locate,
-        try_arrays, try_cover, try_glue, try_at, try_walk, try_star, try_verify, try_call,
+        try_arrays, try_cover, try_glue, try_at, try_walk, try_star, try_verify, try_call, try_rule, try_meets,
     };
     now = (int)below((uint32_t)machine_count);
     if (rarely(1000)) try_open();

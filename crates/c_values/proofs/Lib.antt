@@ -1,2 +1,4 @@
 mod Outlines
+mod RuleRooms
+mod Rules
 mod Windows

@@ -9,13 +9,17 @@
 #![tactic(auto)]
 
 pub mod machine_slot;
+mod numbers;
 pub mod opaque;
 pub mod plain_address;
 pub mod plain_crossing;
+pub mod plain_edge_type;
 pub mod plain_frame;
+pub mod plain_kind;
 pub mod plain_outline;
 pub mod plain_point;
 pub mod plain_relation;
+pub mod plain_rule_numbers;
 pub mod plain_tile;
 pub mod plain_vertex_star;
 pub mod plain_whole_tile;

@@ -1,6 +1,7 @@
 //! Corners as plain numbers.
-ghost use Rattle.std.specs.Prelude.{◌≡◌, ◌≤◌, length};
+ghost use Rattle.std.specs.Prelude.{◌≡◌, ◌≤◌, length, []};
 ghost use Rattle.c_values.specs.Outlines.{HoldsOutline};
+ghost use Rattle.c_values.specs.Rules.{outline_as};
 
 use crate::plain_point::PlainPoint;
 use cyclo_points::point::Point;
@@ -15,6 +16,16 @@ pub struct PlainOutline {
 }
 
 impl PlainOutline {
+    /// Makes an outline with all numbers 0.
+    pub fn blank() -> PlainOutline
+        ensures { result ≡ outline_as [] }
+    {
+        PlainOutline {
+            corners: [PlainPoint { c: [0; 4] }; 12],
+            count: 0,
+        }
+    }
+
     /// Replaces the corners by these points. There is room for 12.
     pub fn write(&mut self, points: &[Point])
         requires at_most_12 { length points.now ≤ 12 }

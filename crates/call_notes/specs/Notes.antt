@@ -43,8 +43,13 @@ abbrev pub note_of : Status → List ℕ
 note_of Done = []
 note_of status = decimal (code_of status) ++ blank ∷ status_text status ++ newline ∷ []
 
+-- the most bytes of a note
+abbrev pub longest_note : ℕ
+longest_note = 640
+
 -- The notes took the start of a line, and the whole line unless their count of faults rose. `before` and
 -- `after` are that count, `old` and `new` the bytes taken, before and after the call.
 pub record IsNoted (before after : ℕ) (old new : Option (List ℕ)) (line : List ℕ) : Type 0 where
   pub front : (count : ℕ) × (count ≤ length line) × Takes old new (take count line)
   pub whole : (Rose before after → ⊥) → Takes old new line
+  pub short : length line ≤ longest_note

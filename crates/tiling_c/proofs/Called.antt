@@ -1,5 +1,5 @@
 -- What a run of the command over bytes in memory answers.
-use Rattle.std.proofs.Common.{◌≡◌, ◌⊎◌, ℕ, Bool, true, false, List, [], ◌++◌, Some, Ok, Err, IfOk, MatchResult, length, inl, inr, refl, sym, ap, ◌∙◌, subst, arith}
+use Rattle.std.proofs.Common.{◌≡◌, ◌⊎◌, ◌≤◌, ℕ, Bool, true, false, List, [], ◌++◌, Some, Ok, Err, IfOk, MatchResult, length, inl, inr, refl, sym, ap, ◌∙◌, subst, arith}
 use Rattle.std.specs.declared.option.Option.{Option}
 use Rattle.std.specs.declared.result.Result.{Result}
 use Rattle.layer_api.specs.declared.format.Format.{Format}
@@ -7,7 +7,7 @@ use Rattle.tile_io.specs.Causes.{Rose}
 use Rattle.tile_io.specs.Taken.{Takes}
 use Rattle.call_notes.specs.declared.status.Status.{Status}
 use Rattle.call_notes.specs.declared.status.Status.TheVariants.{Done, BadWords, NoLayer, ReadFault, RuleTooLong, RuleRefused, BadAddress, NoEdge, NoVertex, Outside, DepthLimit, CoordLimit, TooManyTiles, StarTooBig, BadScript, BadListing, WriteFault, NoMemory}
-use Rattle.call_notes.specs.Notes.{note_of}
+use Rattle.call_notes.specs.Notes.{note_of, longest_note}
 use Rattle.call_notes.specs.Status.{code_of, IsCutShort, IsLimit, IsRefusal}
 use Rattle.tile_app.specs.Answer.{IsPrinted, Prints, CanBeAnswered, IsBeyondLimits}
 use Rattle.tile_app.specs.Asked.{OfCall, IsAsked, IsFileIn}
@@ -71,12 +71,13 @@ module _ (words arguments : List (List ℕ)) (handed : List Format) (input : Lis
       → ((c : Call) (u : Status) → IsAsked words handed (told input) c → Causes c u → IsNoLimit c u → (s ≡ u) ⊎ IsCutShort s)
       → ((c : Call) → IsAsked words handed (told input) c → IsBeyondLimits c → IsLimit s ⊎ IsCutShort s)
       → ((c : Call) → IsAsked words handed (told input) c → CanBeAnswered c → (s ≡ Done) ⊎ (s ≡ NoMemory))
-      → ¬ s ≡ WriteFault → line ≡ noted ++ note_of s
+      → ¬ s ≡ WriteFault → line ≡ noted ++ note_of s → length (note_of s) ≤ longest_note
       → IsEnding (call_of arguments input) new line s
-  is_ending s old new noted line whole none none_noted done refused when beyond complete written its_line = record {
+  is_ending s old new noted line whole none none_noted done refused when beyond complete written its_line short = record {
     whole = whole;
     printed = λ e. printed old new none (done e);
     noted = its_line ∙ ap (λ (xs : List ℕ). xs ++ note_of s) none_noted;
+    short = subst (λ (xs : List ℕ). length xs ≤ longest_note) (sym (its_line ∙ ap (λ (xs : List ℕ). xs ++ note_of s) none_noted)) short;
     refused = cause_of s written whole refused;
     complete = λ can. or_no_memory s whole (complete (call_of arguments input) asked can);
     refused_when = λ u cause no_limit. or_cut (s ≡ u) s whole (when (call_of arguments input) u asked cause no_limit);
@@ -181,7 +182,12 @@ module _ (c : Call) (code : ℕ) (out new_out : List ℕ) (out_bytes : ℕ) (not
 
   status_told : (t : EndsTold c code out new_out out_bytes note new_note note_bytes) → ¬ code ≡ ok
       → TellsStatus t.status code note new_note note_bytes
-  status_told t not = record { is_code = t.is_code; line = (t.noted not).0; whole = (t.noted not).1 }
+  status_told t not = record {
+    is_code = t.is_code;
+    line = (t.noted not).0;
+    whole = (t.noted not).1;
+    short = subst (λ n. n ≤ longest_note) (sym (t.noted not).1) t.answer.short;
+  }
 
   pub prints : code ≡ ok → PrintsText c out new_out out_bytes
   prints e = elim ends [

@@ -6,10 +6,11 @@ mod EdgeGiven
 mod Fronts
 mod Glued
 mod Holder
+mod Meets
 mod Moved
-mod Opened
 mod PathFaults
 mod TextGiven
 mod Turns
 mod Verified
 mod Walked
+mod WholesFew

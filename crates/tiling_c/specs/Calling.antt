@@ -1,11 +1,11 @@
 -- The command as a call over bytes in memory: what it is asked, what it prints, and what it refuses.
-use Rattle.std.specs.Prelude.{◌≡◌, ◌⊎◌, ℕ, Bool, true, false, List, [], ◌∷◌, length}
+use Rattle.std.specs.Prelude.{◌≡◌, ◌⊎◌, ◌≤◌, ℕ, Bool, true, false, List, [], ◌∷◌, length}
 use Rattle.cyclo_points.specs.Text.{newline}
 use Rattle.layer_api.specs.declared.format.Format.{Format}
 use Rattle.layer_api.specs.declared.format.Format.TheVariants.{Svg, List as Listing, Census}
 use Rattle.tile_shape.specs.Words.{texts_between}
 use Rattle.call_notes.specs.declared.status.Status.{Status}
-use Rattle.call_notes.specs.Notes.{note_of}
+use Rattle.call_notes.specs.Notes.{note_of, longest_note}
 use Rattle.call_notes.specs.declared.status.Status.TheVariants.{Done}
 use Rattle.call_notes.specs.Status.{code_of, IsCutShort, IsLimit}
 use Rattle.tile_app.specs.Answer.{Prints, CanBeAnswered, IsBeyondLimits}
@@ -53,6 +53,7 @@ pub record TellsStatus (status : Status) (code : ℕ) (old new : List ℕ) (byte
   pub is_code : code ≡ code_of status
   pub line : HoldsText (note_of status) old new
   pub whole : bytes ≡ length (note_of status)
+  pub short : bytes ≤ longest_note
 
 -- the status that is told is one for which the call has a cause
 pub record RefusesCall (c : Call) (code : ℕ) (old new : List ℕ) (bytes : ℕ) : Type 0 where
@@ -76,6 +77,7 @@ pub record IsEnding (c : Call) (text line : List ℕ) (status : Status) : Type 0
   pub whole : ¬ IsCutShort status
   pub printed : status ≡ Done → Prints c text
   pub noted : line ≡ note_of status
+  pub short : length line ≤ longest_note
   pub refused : (status ≡ Done) ⊎ Causes c status
   pub complete : CanBeAnswered c → status ≡ Done
   pub refused_when : (other : Status) → Causes c other → IsNoLimit c other → status ≡ other

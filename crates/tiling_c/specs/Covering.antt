@@ -1,6 +1,7 @@
 -- The tiles of a window in a caller's arrays.
 use Rattle.std.specs.Prelude.{◌≡◌, ◌⊎◌, ℕ, List, length, map, min, take, drop, All, ◌≤◌}
 use Rattle.theory_walks.specs.Frames.{FrameValue, GrowsTo}
+use Rattle.theory_windows.specs.Limits.{most_tiles}
 use Rattle.plane_geom.specs.declared.window.Window.{Window}
 use Rattle.rule_model.specs.Tiling.{Tiling}
 use Rattle.tile_place.specs.declared.placed_tile.PlacedTile.{PlacedTile}
@@ -42,6 +43,7 @@ pub record IsCover (t : Tiling) (start : FrameValue) (window : Window) (tiles ne
   pub all : List PlacedTile
   pub exactly : TilesOfWindow t start window frame all
   pub number : count ≡ length all
+  pub at_most : count ≤ most_tiles
   pub held_tiles : HoldsTiles all tiles new_tiles
   pub held_addresses : HoldsAddresses all addrs new_addrs
 

@@ -4,6 +4,7 @@ pub mod Covering
 pub mod Holding
 pub mod Locating
 pub mod Machines
+pub mod Meeting
 pub mod Opening
 pub mod Pairing
 pub mod Shapes

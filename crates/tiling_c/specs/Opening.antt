@@ -1,5 +1,5 @@
 -- The machine of a rule file, or the line of the file's first fault.
-use Rattle.std.specs.Prelude.{◌≡◌, ◌<◌, ◌≤◌, ◌++◌, ℕ, List, [], ◌∷◌, codes, length, take, drop, min, Some, Ok, Err}
+use Rattle.std.specs.Prelude.{◌≡◌, ◌<◌, ◌≤◌, ◌++◌, ℕ, List, length, take, drop, min, Some, Ok, Err}
 use Rattle.rule_model.specs.Tiling.{Tiling}
 use Rattle.rule_text.specs.Limits.{longest_file}
 use Rattle.call_notes.specs.declared.status.Status.{Status}
@@ -28,10 +28,9 @@ IsFileFault file RuleTooLong = longest_file < length file
 IsFileFault file (RuleRefused fault) = (length file ≤ longest_file) × (tiling_in_file file ≡ Err fault)
 IsFileFault file _ = ⊥
 
--- the command refuses it
-pub record IsFaulty (file : List ℕ) : Type 0 where
-  pub status : Status
-  pub cause : IsFileFault file status
+-- the most bytes of a line
+abbrev pub most_bytes : ℕ
+most_bytes = 128
 
 -- the file is refused, and the command's line of its first fault, with a number of bytes, is in the array
 pub record RefusesFile (file old new : List ℕ) (bytes : ℕ) : Type 0 where
@@ -39,7 +38,4 @@ pub record RefusesFile (file old new : List ℕ) (bytes : ℕ) : Type 0 where
   pub cause : IsFileFault file status
   pub line : HoldsText (note_of status) old new
   pub whole : bytes ≡ length (note_of status)
-
--- the words by which the command checks a rule file
-abbrev pub check_words : List (List ℕ)
-check_words = codes "check" ∷ codes "rule=-" ∷ []
+  pub short : bytes ≤ most_bytes

@@ -1,5 +1,5 @@
 -- The whole tiles of a window in a caller's array.
-use Rattle.std.specs.Prelude.{◌≡◌, ◌⊎◌, ◌<◌, ℕ, List, [], length, min, drop, get_or, slice_get, None, IfSome}
+use Rattle.std.specs.Prelude.{◌≡◌, ◌⊎◌, ◌<◌, ◌≤◌, ℕ, List, [], length, min, drop, get_or, slice_get, None, IfSome}
 use Rattle.c_values.specs.Tiles.{refused_as}
 use Rattle.half_glue.specs.declared.glue_fault.GlueFault.{GlueFault}
 use Rattle.half_glue.specs.declared.glue_fault.GlueFault.TheVariants.{DepthLimit, CoordLimit, NoMemory}
@@ -12,6 +12,7 @@ use Rattle.half_glue.specs.Limits.{CanBeGlued}
 use Rattle.half_glue.specs.Outline.{whole_parts}
 use Rattle.half_glue.specs.WholeTiles.{AreWholeTilesOf}
 use Rattle.theory_walks.specs.Frames.{FrameValue, GrowsTo}
+use Rattle.theory_windows.specs.Limits.{most_tiles}
 use Rattle.plane_geom.specs.declared.window.Window.{Window}
 use Rattle.rule_model.specs.Tiling.{Tiling}
 use Rattle.tile_app.specs.TilesOfWindow.{TilesOfWindow}
@@ -73,6 +74,7 @@ pub record ShowsWholes (t : Tiling) (start : FrameValue) (window : Window) (old 
   pub tiles : List PlacedTile
   pub exactly : TilesOfWindow t start window frame tiles
   pub glued : ShowsGlued t frame tiles old new count
+  pub at_most : count ≤ most_tiles
   pub cover : WholesCover t (box_of t window) glued.all
 
 -- the status of each fault

@@ -2,6 +2,7 @@
 ghost use Rattle.std.specs.Prelude.{◌≡◌, ◌↔◌, ◌⊎◌, ◌<◌, ◌≤◌, ◌++◌, Ok, IsOk, length, take, drop};
 ghost use Rattle.rule_model.specs.Tiling.{tiling_of, children};
 ghost use Rattle.tile_shape.specs.AddressIn.{address_of_text as address_of_text};
+ghost use Rattle.tile_shape.specs.Limits.{longest_text};
 ghost use Rattle.tile_shape.specs.Text.{address_text};
 ghost use Rattle.c_values.specs.Addresses.{address_in, NamesTile};
 ghost use Rattle.c_values.specs.Statuses.{ok, bad_words, bad_address};
@@ -55,6 +56,7 @@ pub extern "C" fn tiling_write_address(
 ) -> u8
     ensures written { result ≡ ok → text.new ≡ address_text (address_in addr.now) ++ drop bytes.new text.old }
     ensures bytes { result ≡ ok → bytes.new ≡ length (address_text (address_in addr.now)) }
+    ensures at_most_515 { result ≡ ok → bytes.new ≤ longest_text }
     ensures bad_words { (result ≡ bad_words) ↔ ((64 < addr.now.depth)
         ⊎ (length text.old < length (address_text (address_in addr.now)))) }
     ensures text_unchanged { ¬ result ≡ ok → text.new ≡ text.old }

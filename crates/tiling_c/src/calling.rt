@@ -1,8 +1,9 @@
 //! All that the command does, over bytes in memory.
-ghost use Rattle.std.specs.Prelude.{◌≡◌, ◌↔◌, ◌⊎◌, length, map, IfOk, IsTrue};
+ghost use Rattle.std.specs.Prelude.{◌≡◌, ◌↔◌, ◌⊎◌, false, length, map, IfOk, IsTrue};
 ghost use Rattle.std.specs.Str.{IsUtf8};
 ghost use Rattle.call_words.specs.Words.{texts};
 ghost use Rattle.call_notes.specs.declared.status.Status.{Status};
+ghost use Rattle.call_notes.specs.Status.{IsCutShort};
 ghost use Rattle.tile_app.specs.Answer.{CanBeAnswered, IsBeyondLimits};
 ghost use Rattle.tile_app.specs.Causes.{Causes, IsNoLimit};
 ghost use Rattle.c_values.specs.Statuses.{ok, not_text, no_memory};
@@ -10,8 +11,9 @@ ghost use Rattle.tiling_c.specs.Opening.{HoldsText};
 ghost use Rattle.tiling_c.specs.Calling.{PrintsText, TellsStatus, RefusesCall, TellsLimit, IsUnused, EndsWith, EndsTold, all_formats, arguments_in, call_in};
 
 use crate::growing_sink::GrowingSink;
-use crate::opening::{is_cut_short, put_text, source_of};
+use crate::opening::put_text;
 use c_values::status::{NO_MEMORY, NOT_TEXT, OK};
+use call_notes::status::Status;
 use layer_api::format::Format;
 use layer_api::layer::Layer;
 use layer_list::census_layer::CensusLayer;
@@ -20,6 +22,7 @@ use layer_svg::svg_layer::SvgLayer;
 use std::alloc::{AllocError, Global};
 use std::str;
 use tile_app::run::run;
+use tile_io::steady_source::SteadySource;
 
 /// Returns the arguments that a text has between its newlines.
 fn arguments(alloc: Global, text: &str) -> Result<Vec<String>, AllocError>
@@ -31,6 +34,25 @@ fn arguments(alloc: Global, text: &str) -> Result<Vec<String>, AllocError>
         words.push(piece.to_string(alloc)?)?;
     }
     Ok(words)
+}
+
+/// Makes a source that gives the bytes of a file.
+fn source_of(alloc: Global, file: &[u8]) -> Result<SteadySource, AllocError>
+    ensures { IfOk result (λ source. source ≡ file.now) }
+{
+    let mut bytes = Vec::new(alloc);
+    bytes.extend_from_slice(file)?;
+    Ok(SteadySource::new(bytes))
+}
+
+/// Returns true if a call was cut short: memory ran out, or the source failed.
+fn is_cut_short(status: &Status) -> bool
+    ensures { result ≡ false → ¬ IsCutShort status.now }
+{
+    match status {
+        Status::NoMemory | Status::ReadFault => true,
+        _ => false,
+    }
 }
 
 /// Returns true if layers have all formats, in their order.

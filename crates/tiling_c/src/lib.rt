@@ -17,6 +17,7 @@ mod growing_sink;
 pub mod holding;
 pub mod locating;
 pub mod machines;
+pub mod meeting;
 pub mod opening;
 pub mod pairing;
 pub mod place_arrays;

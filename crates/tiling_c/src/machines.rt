@@ -14,13 +14,13 @@ use rule_model::checked::Checked;
 use std::alloc::Global;
 use tile_place::machine::Machine;
 
-/// The version of the header that this library was made for.
-const ABI: u32 = 1;
+/// The number of the header that this library was made for.
+const ABI: u32 = 2;
 
-/// Returns the version of the header that this library was made for.
+/// Returns the number of the header that this library was made for.
 #[unsafe(no_mangle)]
 pub extern "C" fn tiling_abi() -> u32
-    ensures { result ≡ 1 }
+    ensures { result ≡ 2 }
 {
     ABI
 }

@@ -1,8 +1,11 @@
 //! The numbers of a rule.
 ghost use Rattle.std.specs.Prelude.{◌≡◌, length};
 ghost use Rattle.cyclo_points.specs.Order.{points_of};
+ghost use Rattle.rule_model.specs.Tiling.{listed};
 ghost use Rattle.rule_model.specs.Views.{rule_of};
+ghost use Rattle.c_values.specs.Rules.{rule_as};
 
+use c_values::plain_rule_numbers::PlainRuleNumbers;
 use c_values::shared_machine::SharedMachine;
 use tile_place::machine::Machine;
 
@@ -35,4 +38,13 @@ pub extern "C" fn tiling_kinds(t: SharedMachine) -> u8
     ensures { result ≡ length (rule_of t.rule).kinds }
 {
     kinds_of(t.get())
+}
+
+/// Puts all the numbers of the rule.
+#[unsafe(no_mangle)]
+pub extern "C" fn tiling_rule(t: SharedMachine, out: &mut PlainRuleNumbers)
+    // Each number is the rule's, and all numbers behind its lists are 0.
+    ensures { out.new ≡ rule_as (listed t.rule) }
+{
+    out.write(t.get().checked());
 }

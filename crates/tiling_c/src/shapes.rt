@@ -1,16 +1,14 @@
 //! The shapes of a rule: its prototiles by edges and corners, the edges along which halves are glued, and the
 //! corners of tiles.
-ghost use Rattle.std.specs.Prelude.{◌≡◌, ◌↔◌, ◌⊎◌, ◌<◌, ◌≤◌, ℕ, length, drop};
+ghost use Rattle.std.specs.Prelude.{◌≡◌, ◌↔◌, ◌⊎◌, ◌<◌, ◌≤◌, ℕ, length};
 ghost use Rattle.rule_model.specs.Glue.{IsGlueEdge, IsOnlyGlueEdge};
 ghost use Rattle.rule_model.specs.Tiling.{tiling_of};
 ghost use Rattle.rule_model.specs.Views.{as_rule, rule_of};
 ghost use Rattle.theory_substitution.specs.RuleParts.{vertices_of};
-ghost use Rattle.tile_place.specs.Corners.{AreCorners};
 ghost use Rattle.tile_place.specs.Crossed.{edges_of};
-ghost use Rattle.c_values.specs.Outlines.{corners_in, HoldsOutline};
+ghost use Rattle.c_values.specs.Outlines.{HoldsOutline};
 ghost use Rattle.c_values.specs.Statuses.{ok, bad_words, no_edge};
-ghost use Rattle.c_values.specs.Tiles.{motion_of};
-ghost use Rattle.tiling_c.specs.Shapes.{HasKind, IsPlainTile};
+ghost use Rattle.tiling_c.specs.Shapes.{HasKind, IsPlainTile, ShowsCorners};
 
 use crate::rule_numbers::kinds_of;
 use arrayvec::ArrayVec;
@@ -119,10 +117,7 @@ pub extern "C" fn tiling_glue_edge(t: SharedMachine, kind: u8, edge: &mut u8) ->
 
 /// Puts the corners of a tile of a machine's rule.
 pub fn put_corners(machine: &Machine, tile: &PlainTile, out: &mut PlainOutline) -> u8
-    ensures corners { result ≡ ok → AreCorners (tiling_of machine.now) tile.now.kind (motion_of tile.now)
-        (corners_in out.new) }
-    ensures behind { result ≡ ok
-        → drop out.new.count out.new.corners ≡ drop out.new.count out.old.corners }
+    ensures corners { result ≡ ok → ShowsCorners (tiling_of machine.now) tile.now out.old out.new }
     ensures bad_words { (result ≡ bad_words) ↔ (¬ IsPlainTile (tiling_of machine.now) tile.now) }
     ensures unchanged { ¬ result ≡ ok → out.new ≡ out.old }
     ensures statuses { (result ≡ ok) ⊎ (result ≡ bad_words) }
@@ -143,10 +138,7 @@ pub fn put_corners(machine: &Machine, tile: &PlainTile, out: &mut PlainOutline) 
 #[unsafe(no_mangle)]
 pub extern "C" fn tiling_corners(t: SharedMachine, tile: &PlainTile, out: &mut PlainOutline) -> u8
     // Each corner is the vertex with the same number of the prototile, moved by the tile's motion.
-    ensures corners { result ≡ ok → AreCorners (tiling_of t.rule) tile.now.kind (motion_of tile.now)
-        (corners_in out.new) }
-    ensures behind { result ≡ ok
-        → drop out.new.count out.new.corners ≡ drop out.new.count out.old.corners }
+    ensures corners { result ≡ ok → ShowsCorners (tiling_of t.rule) tile.now out.old out.new }
     ensures bad_words { (result ≡ bad_words) ↔ (¬ IsPlainTile (tiling_of t.rule) tile.now) }
     ensures unchanged { ¬ result ≡ ok → out.new ≡ out.old }
     ensures statuses { (result ≡ ok) ⊎ (result ≡ bad_words) }

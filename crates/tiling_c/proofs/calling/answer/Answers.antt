@@ -16,7 +16,8 @@ returns c =
     (c.is_cut_short.ensures c.if-is_cut_short.false) c.requires.sink.empty c.requires.notes.empty
     c.run-status.ensures.done c.run-status.ensures.refused c.run-status.ensures.refused_when c.run-status.ensures.beyond_limits
     (λ call asked can. c.run-status.ensures.complete call asked can sink_whole (no_rise 0 0 refl refl))
-    (λ e. sink_whole (c.run-status.ensures.write_fault e)) (c.run-status.ensures.noted.whole notes_whole) in
+    (λ e. sink_whole (c.run-status.ensures.write_fault e)) (c.run-status.ensures.noted.whole notes_whole)
+    c.run-status.ensures.noted.short in
     record {
       status = c.run-status.result;
       is_code = c.code.ensures;

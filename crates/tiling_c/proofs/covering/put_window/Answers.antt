@@ -1,9 +1,14 @@
+use Rattle.std.proofs.Common.{arith}
+use Rattle.rule_model.specs.Tiling.{tiling_of}
+use Rattle.tile_app.proofs.Drawing.{at_most_limit}
 use Rattle.tiling_c.proofs.Covers.{answered_or_none, never_ok, never_words, never_address}
 use Rattle.tiling_c.proofs.covering.put_window.Goals as goal
 
 pub returns-in-Ok-clause-covers : goal.returns-in-Ok-clause-covers
 returns-in-Ok-clause-covers c =
     let found = c.in-Ok.ensures in
+    let few = at_most_limit (tiling_of c.args.machine.now) c.args.frame.now c.covered_tiles.new.frame c.args.window.now
+    c.requires.frame c.covered_tiles.ensures.frame found.within found.least c.in-Ok.covered found.drawn in
     λ _. record {
       frame = c.covered_tiles.new.frame;
       all = c.in-Ok.covered;
@@ -16,6 +21,7 @@ returns-in-Ok-clause-covers c =
         covered = found.covered;
       };
       number = c.len.ensures;
+      at_most = omega (arith, few, c.len.ensures);
       held_tiles = c.put_covered.ensures.tiles;
       held_addresses = c.put_covered.ensures.addresses;
     }

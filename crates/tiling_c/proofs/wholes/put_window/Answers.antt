@@ -1,8 +1,9 @@
-use Rattle.std.proofs.Common.{inl, inr}
+use Rattle.std.proofs.Common.{inl, inr, arith}
 use Rattle.rule_model.specs.Tiling.{tiling_of}
 use Rattle.tile_app.proofs.Drawing.{at_most_limit, can_be_drawn}
 use Rattle.tile_app.proofs.Gluing.{may-be-given}
 use Rattle.window_cover.specs.Windows.{box_of}
+use Rattle.tiling_c.proofs.WholesFew.{wholes_few}
 use Rattle.tiling_c.proofs.Covers.{answered_or_none, never_ok, never_words, never_address}
 use Rattle.tiling_c.proofs.wholes.put_window.Goals as goal
 
@@ -31,7 +32,9 @@ returns-in-Ok-clause-wholes c =
     let grown = c.covered_tiles.ensures.frame in
     let tiles = c.in-Ok.tiles in
     let x = c.in-Ok.ensures in
-    λ e. let glued = c.put_glued.ensures.glued e in record {
+    let few = at_most_limit t c.args.frame.now g c.args.window.now c.requires.frame grown x.within x.least tiles x.drawn in
+    λ e. let glued = c.put_glued.ensures.glued e in
+    let fewer = wholes_few t glued.glued_frame tiles glued.all c.whole_tiles_law.ensures.once glued.whole_tiles glued.in_order in record {
       frame = g;
       tiles = tiles;
       exactly = record {
@@ -43,6 +46,7 @@ returns-in-Ok-clause-wholes c =
         covered = x.covered;
       };
       glued = glued;
+      at_most = omega (arith, few, fewer, glued.number);
       cover = c.whole_tiles_law.ensures.covering g glued.glued_frame (box_of t c.args.window.now) tiles glued.all
           grown.is_frame glued.grown x.stand x.covered glued.whole_tiles glued.in_order;
     }

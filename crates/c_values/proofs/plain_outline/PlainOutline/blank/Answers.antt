@@ -1,0 +1,7 @@
+use Rattle.std.proofs.Common.{refl}
+use Rattle.c_values.specs.Rules.{padded}
+use Rattle.c_values.proofs.plain_outline.PlainOutline.blank.Goals as goal
+
+pub returns : goal.returns
+unfolding padded
+returns c = refl
