@@ -35,8 +35,7 @@ from .rule import Rule
 from .texts import address_texts, read_alike
 
 Answer = TypeVar("Answer")
-ABI = 1
-LATEST_ABI = 2
+ABI = 2
 FRAME = np.dtype([("seed", "<u8"), ("base", ADDRESS), ("rest", "u1", 6)])
 WINDOW = np.dtype([("at", "<i8", 4), ("w", "<u2"), ("h", "<u2"), ("rest", "u1", 4)])
 OK, BAD_ADDRESS, REFUSED = 0, 4, 255
@@ -48,10 +47,7 @@ CALLS = {
     "abi": (ctypes.c_uint32,),
     "open": (STATUS, ctypes.c_char_p, SIZE, POINTER),
     "open_file": (STATUS, ctypes.c_char_p, SIZE, POINTER, POINTER, SIZE, POINTER),
-    "order": (BYTE, POINTER),
-    "kinds": (BYTE, POINTER),
-    "prototile": (STATUS, POINTER, BYTE, POINTER),
-    "glue_edge": (STATUS, POINTER, BYTE, POINTER),
+    "rule": (None, POINTER, POINTER),
     "read_address": (STATUS, POINTER, ctypes.c_char_p, SIZE, POINTER),
     "write_address": (STATUS, POINTER, POINTER, SIZE, POINTER),
     "place": (STATUS, POINTER, POINTER, POINTER),
@@ -60,6 +56,7 @@ CALLS = {
     "neighbour_all": (STATUS, POINTER, POINTER, SIZE, POINTER, SIZE, POINTER, SIZE),
     "pair": (STATUS, POINTER, POINTER, POINTER, POINTER),
     "cover": (STATUS, POINTER, POINTER, POINTER, POINTER, SIZE, POINTER, SIZE, POINTER),
+    "meets_all": (STATUS, POINTER, POINTER, SIZE, POINTER, POINTER, SIZE),
     "glue": (STATUS, POINTER, POINTER, POINTER, POINTER, SIZE, POINTER),
     "walk": (STATUS, POINTER, POINTER, BYTE, POINTER, SIZE, POINTER, SIZE, POINTER, SIZE),
     "star": (STATUS, POINTER, POINTER, BYTE, POINTER),
@@ -67,11 +64,6 @@ CALLS = {
     "call": (STATUS, *(ctypes.c_char_p, SIZE) * 2, *(POINTER, SIZE, POINTER) * 2),
 }
 SINGLE_CALLS = ("read_address", "write_address", "place", "neighbour")
-# those that the interface 2 has more
-MORE_CALLS = {
-    "rule": (None, POINTER, POINTER),
-    "meets_all": (STATUS, POINTER, POINTER, SIZE, POINTER, POINTER, SIZE),
-}
 CROSSING = np.dtype([("status", "u1"), ("back", "u1"), ("part", "u1")])
 RELATION = np.dtype([("relation", "u1"), ("backs", "u1", 12)])
 STAR = np.dtype([("tiles", TILE, 64), ("addresses", ADDRESS, 64), ("count", "u1"), ("rest", "u1", 7)])
@@ -91,10 +83,7 @@ class Library:
     abi: Callable[..., int]
     open: Callable[..., int]
     open_file: Callable[..., int]
-    order: Callable[..., int]
-    kinds: Callable[..., int]
-    prototile: Callable[..., int]
-    glue_edge: Callable[..., int]
+    rule: Callable[..., None]
     read_address: Callable[..., int]
     write_address: Callable[..., int]
     place: Callable[..., int]
@@ -108,8 +97,7 @@ class Library:
     star: Callable[..., int]
     verify: Callable[..., int]
     call: Callable[..., int]
-    rule: Optional[Callable[..., None]] = None
-    meets_all: Optional[Callable[..., int]] = None
+    meets_all: Callable[..., int]
 
     def __init__(self, path: str):
         self.path = path
@@ -118,12 +106,10 @@ class Library:
             self._take(loaded, CALLS)
             # (a call on one tile takes less time than it takes to let other threads run meanwhile)
             self._take(ctypes.PyDLL(path), {name: CALLS[name] for name in SINGLE_CALLS})
-            if not ABI <= self.abi() <= LATEST_ABI:
-                raise NoEngine(f"{path} has the interface {self.abi()}, and this package needs {LATEST_ABI}")
-            if self.abi() == LATEST_ABI:
-                self._take(loaded, MORE_CALLS)
         except (OSError, AttributeError) as trouble:
             raise NoEngine(f"{path} can't be loaded: {trouble}") from trouble
+        if self.abi() != ABI:
+            raise NoEngine(f"{path} has the interface {self.abi()}, and this package needs {ABI}")
 
     def _take(self, loaded: ctypes.CDLL, calls: Dict[str, Tuple[Any, ...]]) -> None:
         """Takes these functions of a library."""
@@ -208,7 +194,7 @@ class LibraryMachine(Machine):
     def __init__(self, engine: LibraryEngine, name: str, file: Optional[bytes] = None):
         self.engine, self.name, self.file, self.library = engine, name, file, engine.library
         self.handle = self._opened()
-        self.asked = CommandMachine(engine, name, file, lambda: self.rule)
+        self.asked = CommandMachine(engine, name, file)
 
     def _opened(self) -> ctypes.c_void_p:
         handle, size = ctypes.c_void_p(), ctypes.c_size_t()
@@ -317,8 +303,6 @@ class LibraryMachine(Machine):
         return read, np.array(wrong, np.int64)
 
     def meeting(self, tiles: np.ndarray, boxes: Sequence[Box]) -> np.ndarray:
-        if self.library.meets_all is None:
-            return super().meeting(tiles, boxes)
         given, found = np.ascontiguousarray(tiles), np.zeros(len(tiles), bool)
         for box in boxes:
             window, flags = np.zeros((), WINDOW), np.zeros(len(tiles), np.uint8)
