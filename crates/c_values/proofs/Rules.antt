@@ -67,10 +67,12 @@ outline_over_zeros points old new zeros holds =
     let n = length points in
     let count : new.count ≡ n = holds.count in
     let front : take n new.corners ≡ map point_as points =
-    sym (map-map point_as point_of (take n new.corners) ∙ map-id (take n new.corners)) ∙ ap (map point_as) (subst (λ k. map point_of (take k new.corners) ≡ points) count holds.corners) in
+    sym (map-map point_as point_of (take n new.corners) ∙ map-id (take n new.corners))
+    ∙ ap (map point_as) (subst (λ k. map point_of (take k new.corners) ≡ points) count holds.corners) in
     let behind : drop n new.corners ≡ replicate (12 - n) zero_point =
     subst (λ k. drop k new.corners ≡ drop k old.corners) count holds.behind
     ∙ ap (λ (o : PlainOutline). drop n o.corners) zeros ∙ drop-replicate n 12 zero_point in
     let corners : new.corners ≡ map point_as points ++ replicate (12 - length (map point_as points)) zero_point =
-    sym (take-append-drop n new.corners) ∙ ap₂ (λ u v. u ++ v) front (behind ∙ ap (λ k. replicate (12 - k) zero_point) (sym (length-map points point_as))) in
+    sym (take-append-drop n new.corners)
+    ∙ ap₂ (λ u v. u ++ v) front (behind ∙ ap (λ k. replicate (12 - k) zero_point) (sym (length-map points point_as))) in
     ap₂ (λ (cs : List PlainPoint) (k : ℕ). (let o : PlainOutline = record { corners = cs; count = k } in o)) corners count

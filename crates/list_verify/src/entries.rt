@@ -25,7 +25,7 @@ use tile_place::machine::Machine;
 /// Checks whether entries are exactly the tiles that meet a window, in any order, and returns how many there
 /// are. It is [`verify`](crate::verify::verify) for entries that are read already.
 ///
-/// - `entries` are at most 200,000. Each has an address of any depth, which fits the rule, and a motion in the
+/// - `entries` are at most 200,000. Each has an address of any depth that fits the rule, and a motion in the
 ///   base's frame.
 /// - `frame`, `window` and `alloc` are as there.
 ///

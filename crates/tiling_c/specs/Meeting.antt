@@ -12,7 +12,10 @@ use Rattle.tiling_c.specs.Shapes.{IsPlainTile}
 
 -- the tile of this kind at this place; the digits of an address say nothing of where a tile lies
 abbrev pub tile_given : (t : Tiling) → PlainTile → TileOf t
-tile_given t p = record { address = record { kind = p.kind; digits = [] }; motion = motion_in t.order (motion_of p) }
+tile_given t p = record {
+  address = record { kind = p.kind; digits = [] };
+  motion = motion_in t.order (motion_of p);
+}
 
 -- The flag is 0 or 1. It is 1 exactly if the tile meets the window.
 pub record ShowsMeeting (t : Tiling) (w : Window) (tile : PlainTile) (flag : ℕ) : Type 0 where
@@ -20,7 +23,8 @@ pub record ShowsMeeting (t : Tiling) (w : Window) (tile : PlainTile) (flag : ℕ
   pub meets : (flag ≡ 1) ↔ MeetsWindow t w (tile_given t tile)
 
 -- the numbers give a window, each entry is a tile of the rule, and there are as many flags as tiles
-pub record AsksWhichMeet (t : Tiling) (window : PlainWindow) (tiles : List PlainTile) (flags : List ℕ) : Type 0 where
+pub record AsksWhichMeet (t : Tiling) (window : PlainWindow) (tiles : List PlainTile)
+    (flags : List ℕ) : Type 0 where
   pub window_given : GivesWindow window
   pub are_tiles : All (IsPlainTile t) tiles
   pub same_length : length flags ≡ length tiles
