@@ -24,7 +24,7 @@ use Rattle.theory_windows.specs.FrameLaws.{FramePatchLaw}
 use Rattle.theory_windows.specs.Laws.{WholesLaw}
 use Rattle.theory_windows.specs.Outlines.{Polygon}
 use Rattle.theory_windows.specs.Patch.{IsDissected}
-use Rattle.theory_windows.specs.WholeTiles.{WholeTile as PatchWhole, CountAsTheirParts, WholesCover as PatchWholesCover}
+use Rattle.theory_windows.specs.WholeTiles.{WholeTile as PatchWhole, CountAsTheirParts, WholesCoverBox as PatchWholesCover}
 use Rattle.theory_walks.specs.Frames.{FrameValue, whole, IsFrameOf}
 use Rattle.theory_walks.proofs.Walks.{whole-fits}
 use Rattle.half_glue.specs.declared.whole_tile.WholeTile.{WholeTile}
