@@ -5,25 +5,25 @@ use Rattle.cyclo_points.specs.Order.{points_of}
 use Rattle.theory_walks.specs.Ancestors.{full}
 use Rattle.theory_walks.specs.Frames.{FrameValue, GrowsTo}
 use Rattle.theory_walks.proofs.Ancestors.{full-later}
-use Rattle.listing_text.specs.Listing.{Entry, listing_in}
+use Rattle.listing_text.specs.Listing.{Entry}
 use Rattle.theory_listings.proofs.FrameLines.{deepest-first}
 use Rattle.plane_geom.specs.declared.window.Window.{Window}
-use Rattle.rule_model.specs.Tiling.{Tiling, children}
+use Rattle.rule_model.specs.Tiling.{Tiling}
 use Rattle.theory_windows.specs.FrameWindow.{IsLeastDepth}
 use Rattle.window_cover.specs.Windows.{box_of, IsLeastForWindow}
-use Rattle.list_verify.specs.Depth.{IsEnoughListed}
+use Rattle.list_verify.specs.Depth.{IsEnoughRead}
 use Rattle.list_verify.specs.Lifted.{deepest_entry}
-use Rattle.list_verify.specs.Listing.{tiles_listed}
+use Rattle.list_verify.specs.Listing.{tiles_listed, Reading}
 
 ok-same : {T E : Type 0} (x y : T) → ◌≡◌ {A = Result T E} (Ok x) (Ok y) → x ≡ y
 ok-same x y e = cc
 
-module _ (t : Tiling) (f : FrameValue) (w : Window) (text : List ℕ) (n : ℕ) (enough : IsEnoughListed t f w text n) where
+module _ (t : Tiling) (f : FrameValue) (w : Window) (reading : Reading) (n : ℕ) (enough : IsEnoughRead t f w reading n) where
   -- the frame itself isn't deeper
   pub frame-not_beyond : length f.digits ≤ n
   frame-not_beyond = let l = deepest-first (length f.digits) (tiles_listed t enough.entries) in let k = enough.least.not_below in omega (arith, l, k)
 
-  module _ (entries : List Entry) (read : listing_in (children t) text ≡ Ok entries) where
+  module _ (entries : List Entry) (read : reading ≡ Ok entries) where
     same : enough.entries ≡ entries
     same = ok-same enough.entries entries (sym enough.read ∙ read)
 

@@ -16,7 +16,7 @@ use Rattle.theory_walks.specs.Frames.{FrameValue, IsFrameOf}
 use Rattle.theory_walks.proofs.Walks.{StillFits}
 use Rattle.listing_text.specs.declared.listing_fault.ListingFault.{ListingFault}
 use Rattle.listing_text.specs.declared.listing_fault.ListingFault.TheVariants as text
-use Rattle.listing_text.specs.Listing.{Entry, listing_in}
+use Rattle.listing_text.specs.Listing.{Entry}
 use Rattle.theory_listings.specs.FrameListing.{AreOfFrame, NamesMeeting, IsNotOfFrame, IsDouble}
 use Rattle.theory_listings.specs.FrameWalk.{IsRightInFrame}
 use Rattle.theory_listings.specs.Lines.{IsFirstLine}
@@ -33,10 +33,10 @@ use Rattle.window_cover.specs.Windows.{TileOf, box_of, IsWindow}
 use Rattle.theory_windows.specs.FrameCover.{IsWindowOn}
 use Rattle.list_verify.specs.declared.list_fault.ListFault.{ListFault}
 use Rattle.list_verify.specs.declared.list_fault.ListFault.TheVariants.{TooLong, BadLine, Address as BadAddress, BadKind, NotOfFrame, Double, Missing, WrongPlace, Stray, DepthLimit, CoordLimit, NoMemory}
-use Rattle.list_verify.specs.Listing.{tile_listed, tiles_listed, IsRightFor, IsVerified, NamesTileThere, HasAllTiles}
+use Rattle.list_verify.specs.Listing.{tile_listed, tiles_listed, IsRightFor, Reading, IsRightReading, NamesTileThere, HasAllTiles}
 use Rattle.list_verify.specs.ListLaws.{HasListLaws}
-use Rattle.list_verify.specs.OneVerdict.{HasOneVerdict, tiling_accepted}
-use Rattle.list_verify.specs.Verdict.{fault_of_text, frame_listed, AreOfFrameGrown, AreApart, HasNotOfFrame, HasDouble, HasStrayLine, EndsWalking, HasCause, IsOfWalk, IsTold, LacksTiles}
+use Rattle.list_verify.specs.OneVerdict.{HasOneVerdictOn, tiling_accepted}
+use Rattle.list_verify.specs.Verdict.{fault_of_text, frame_listed, AreOfFrameGrown, AreApart, HasNotOfFrame, HasDouble, HasStrayLine, EndsWalking, IsCauseIn, IsOfWalk, IsTold, LacksEntries}
 use Rattle.list_verify.specs.Walked.{first_refused_at}
 
 -- the child kinds of an accepted rule are a table of uses
@@ -58,10 +58,10 @@ one-double f listing i j h k = one_number i j (λ l. absurd (k.first i h.line l 
     (λ l. absurd (h.first j k.line l k.is_line k.earlier))
 
 -- ---- what is read is read in one way
-one-reading : (read : Result (List Entry) ListingFault) (xs ys : List Entry) → read ≡ Ok xs → read ≡ Ok ys → xs ≡ ys
+one-reading : (read : Reading) (xs ys : List Entry) → read ≡ Ok xs → read ≡ Ok ys → xs ≡ ys
 one-reading read xs ys h k = cc (sym h ∙ k)
 
-one-text_fault : (read : Result (List Entry) ListingFault) (d e : ListingFault) → read ≡ Err d → read ≡ Err e → d ≡ e
+one-text_fault : (read : Reading) (d e : ListingFault) → read ≡ Err d → read ≡ Err e → d ≡ e
 one-text_fault read d e h k = cc (sym h ∙ k)
 
 -- ---- how a listing stands: its text has a fault; a line is outside the frame, or a double; a tile is lacking; a line is stray; or it is right
@@ -101,7 +101,7 @@ of_walk-untold fault h k = absurd h
 
 module _ (o : Order) (T : AcceptedRule (points_of o)) (fits : StillFits (children (tiling_accepted o T)))
     (L : HasListLaws (points_of o)) (f : FrameValue)
-    (is : IsFrameOf (tiling_accepted o T) f) (w : Window) (fit : IsWindow w) (listing : List ℕ) where
+    (is : IsFrameOf (tiling_accepted o T) f) (w : Window) (fit : IsWindow w) (reading : Reading) where
   abbrev t : Tiling
   t = tiling_accepted o T
 
@@ -116,10 +116,6 @@ module _ (o : Order) (T : AcceptedRule (points_of o)) (fits : StillFits (childre
 
   abbrev kinds : List (List ℕ)
   kinds = tables.child_kinds (tables_of P T.rule)
-
-  -- its lines, or the first fault of its text
-  abbrev reading : Result (List Entry) ListingFault
-  reading = listing_in (children t) listing
 
   same-lines : (xs ys : List Entry) → reading ≡ Ok xs → reading ≡ Ok ys → xs ≡ ys
   same-lines xs ys h k = one-reading reading xs ys h k
@@ -137,11 +133,11 @@ module _ (o : Order) (T : AcceptedRule (points_of o)) (fits : StillFits (childre
 
   abbrev Stands : Standing → Type 0
   Stands (Unread e) = reading ≡ Err e
-  Stands (Outside i) = HasNotOfFrame t f listing i
-  Stands (Doubled i) = HasDouble t f listing i
-  Stands Lacking = LacksTiles t f w listing
-  Stands (Straying i) = HasStrayLine t f w listing i
-  Stands (Right n) = IsVerified t f w listing n
+  Stands (Outside i) = HasNotOfFrame t f reading i
+  Stands (Doubled i) = HasDouble t f reading i
+  Stands Lacking = LacksEntries t f w reading
+  Stands (Straying i) = HasStrayLine t f w reading i
+  Stands (Right n) = IsRightReading t f w reading n
 
   -- ---- the text is read, unless it has a fault
   abbrev IsRead : Standing → Type 0
@@ -163,7 +159,7 @@ module _ (o : Order) (T : AcceptedRule (points_of o)) (fits : StillFits (childre
   abbrev IsInside : Standing → Type 0
   IsInside (Unread e) = Unit {0}
   IsInside (Outside i) = Unit {0}
-  IsInside s = (entries : List Entry) × AreOfFrameGrown t f listing entries
+  IsInside s = (entries : List Entry) × AreOfFrameGrown t f reading entries
 
   is-inside : (s : Standing) → Stands s → IsInside s
   is-inside (Unread e) h = tt
@@ -173,7 +169,7 @@ module _ (o : Order) (T : AcceptedRule (points_of o)) (fits : StillFits (childre
   is-inside (Straying i) h = (h.entries, h.lines.lines)
   is-inside (Right n) h = (h.entries, record { read = h.read; of_frame = (right-in_frame h.entries h.right).listing_on.of_frame })
 
-  outside : (i : ℕ) → HasNotOfFrame t f listing i → (entries : List Entry) × AreOfFrameGrown t f listing entries → ⊥
+  outside : (i : ℕ) → HasNotOfFrame t f reading i → (entries : List Entry) × AreOfFrameGrown t f reading entries → ⊥
   outside i h k =
       let x = h.first.line in
       absurd (h.first.so (AllByRecursion-among (λ (x : TileOf t). IsTileOf kinds (frame_listed t f h.entries) x.address) x (tiles_listed t h.entries)
@@ -185,7 +181,7 @@ module _ (o : Order) (T : AcceptedRule (points_of o)) (fits : StillFits (childre
   IsApart (Unread e) = Unit {0}
   IsApart (Outside i) = Unit {0}
   IsApart (Doubled i) = Unit {0}
-  IsApart s = (entries : List Entry) × AreApart t f listing entries
+  IsApart s = (entries : List Entry) × AreApart t f reading entries
 
   is-apart : (s : Standing) → Stands s → IsApart s
   is-apart (Unread e) h = tt
@@ -201,7 +197,7 @@ module _ (o : Order) (T : AcceptedRule (points_of o)) (fits : StillFits (childre
     },
   )
 
-  doubled : (i : ℕ) → HasDouble t f listing i → (entries : List Entry) × AreApart t f listing entries → ⊥
+  doubled : (i : ℕ) → HasDouble t f reading i → (entries : List Entry) × AreApart t f reading entries → ⊥
   doubled i h k =
       absurd (k.1.none_double i (subst (λ es. IsDouble (frame_listed t f es) (tiles_listed t es) i)
       (same-lines h.entries k.0 h.lines.read k.1.lines.read) h.first))
@@ -213,10 +209,10 @@ module _ (o : Order) (T : AcceptedRule (points_of o)) (fits : StillFits (childre
     centre_found : first_refused_at t f w ≡ None
     all_tiles : HasAllTiles t f w d entries
 
-  stray-all : (i : ℕ) → HasStrayLine t f w listing i → HasAll
+  stray-all : (i : ℕ) → HasStrayLine t f w reading i → HasAll
   stray-all i h = record { entries = h.entries; read = h.lines.lines.read; centre_found = h.centre_found; all_tiles = h.stray.all_tiles }
 
-  right-all : (n : ℕ) → IsVerified t f w listing n → HasAll
+  right-all : (n : ℕ) → IsRightReading t f w reading n → HasAll
   right-all n h = record {
     entries = h.entries;
     read = h.read;
@@ -228,11 +224,11 @@ module _ (o : Order) (T : AcceptedRule (points_of o)) (fits : StillFits (childre
     };
   }
 
-  lacking : LacksTiles t f w listing → HasAll → ⊥
+  lacking : LacksEntries t f w reading → HasAll → ⊥
   lacking h k = absurd (h.lacking k.centre_found (subst (HasAllTiles t f w d) (same-lines k.entries h.entries k.read h.lines.lines.read) k.all_tiles))
 
   -- ---- then no line is stray, or one is
-  stray : (i n : ℕ) → HasStrayLine t f w listing i → IsVerified t f w listing n → ⊥
+  stray : (i n : ℕ) → HasStrayLine t f w reading i → IsRightReading t f w reading n → ⊥
   stray i n h k =
       let s = h.stray.first in
       let same = same-lines h.entries k.entries h.lines.lines.read k.read in
@@ -241,21 +237,21 @@ module _ (o : Order) (T : AcceptedRule (points_of o)) (fits : StillFits (childre
       (IsAmong-map (tile_listed t) s.line k.entries (subst (λ es. IsAmong s.line es) same (line-among h.entries i s.line s.is_line)))
       (right-in_frame k.entries k.right).each_meets))
 
-  one-count : (n m : ℕ) → IsVerified t f w listing n → IsVerified t f w listing m → n ≡ m
+  one-count : (n m : ℕ) → IsRightReading t f w reading n → IsRightReading t f w reading m → n ≡ m
   one-count n m h k = h.count ∙ ap length (same-lines h.entries k.entries h.read k.read) ∙ sym k.count
 
   -- ---- so it stands in one way
-  one-outside : (i j : ℕ) → HasNotOfFrame t f listing i → HasNotOfFrame t f listing j → i ≡ j
+  one-outside : (i j : ℕ) → HasNotOfFrame t f reading i → HasNotOfFrame t f reading j → i ≡ j
   one-outside i j h k =
       one-first (λ (x : TileOf t). ¬ IsTileOf kinds (frame_listed t f h.entries) x.address) (tiles_listed t h.entries) i j h.first
       (subst (λ es. IsNotOfFrame P T.rule (frame_listed t f es) (tiles_listed t es) j) (same-lines k.entries h.entries k.read h.read) k.first)
 
-  one-doubled : (i j : ℕ) → HasDouble t f listing i → HasDouble t f listing j → i ≡ j
+  one-doubled : (i j : ℕ) → HasDouble t f reading i → HasDouble t f reading j → i ≡ j
   one-doubled i j h k =
       one-double (frame_listed t f h.entries) (tiles_listed t h.entries) i j h.first
       (subst (λ es. IsDouble (frame_listed t f es) (tiles_listed t es) j) (same-lines k.entries h.entries k.lines.read h.lines.read) k.first)
 
-  one-stray : (i j : ℕ) → HasStrayLine t f w listing i → HasStrayLine t f w listing j → i ≡ j
+  one-stray : (i j : ℕ) → HasStrayLine t f w reading i → HasStrayLine t f w reading j → i ≡ j
   one-stray i j h k =
       one-first (λ (e : Entry). ¬ NamesTileThere t f w e) h.entries i j h.stray.first
       (subst (λ es. IsFirstLine (λ (e : Entry). ¬ NamesTileThere t f w e) es j)
@@ -287,10 +283,10 @@ module _ (o : Order) (T : AcceptedRule (points_of o)) (fits : StillFits (childre
     stands : Stands standing
     said : IsSaid standing fault
 
-  lacks : (g : FrameValue) (fault : ListFault) → EndsWalking t f g w listing fault → LacksTiles t f w listing
+  lacks : (g : FrameValue) (fault : ListFault) → EndsWalking t f g w reading fault → LacksEntries t f w reading
   lacks g fault h = record { entries = h.entries; lines = h.lines; lacking = h.stopped.not_all }
 
-  said-of : (g : FrameValue) (fault : ListFault) → HasCause t f g w listing fault → (fault ≡ NoMemory) ⊎ IsSaidOfIt fault
+  said-of : (g : FrameValue) (fault : ListFault) → IsCauseIn t f g w reading fault → (fault ≡ NoMemory) ⊎ IsSaidOfIt fault
   said-of g TooLong h = inr (record { standing = Unread text.TooLong; stands = h; said = refl })
   said-of g (BadLine line place) h = inr (record { standing = Unread (text.BadLine line place); stands = h; said = refl })
   said-of g (BadAddress line fault) h = inr (record { standing = Unread (text.Address line fault); stands = h; said = refl })
@@ -309,14 +305,14 @@ module _ (o : Order) (T : AcceptedRule (points_of o)) (fits : StillFits (childre
   said-at s fault h k = subst (λ a. IsSaid a fault) (one-standing k.standing s k.stands h) k.said
 
   -- what is said where a tile is lacking
-  pub lacks-of_walk : (g : FrameValue) (fault : ListFault) → LacksTiles t f w listing
-      → HasCause t f g w listing fault → (fault ≡ NoMemory) ⊎ IsOfWalk fault
+  pub lacks-of_walk : (g : FrameValue) (fault : ListFault) → LacksEntries t f w reading
+      → IsCauseIn t f g w reading fault → (fault ≡ NoMemory) ⊎ IsOfWalk fault
   lacks-of_walk g fault h k = elim (said-of g fault k) [ inl e ↦ inl e | inr s ↦ inr (said-at Lacking fault h s) ]
 
-  right-or_not : (n : ℕ) (g : FrameValue) (fault : ListFault) → IsVerified t f w listing n → HasCause t f g w listing fault → fault ≡ NoMemory
+  right-or_not : (n : ℕ) (g : FrameValue) (fault : ListFault) → IsRightReading t f w reading n → IsCauseIn t f g w reading fault → fault ≡ NoMemory
   right-or_not n g fault h k = elim (said-of g fault k) [ inl e ↦ e | inr s ↦ absurd (said-at (Right n) fault h s) ]
 
-  one-fault : (g h : FrameValue) (one other : ListFault) → HasCause t f g w listing one → HasCause t f h w listing other
+  one-fault : (g h : FrameValue) (one other : ListFault) → IsCauseIn t f g w reading one → IsCauseIn t f h w reading other
       → (one ≡ other) ⊎ ((one ≡ NoMemory) ⊎ ((other ≡ NoMemory) ⊎ (IsOfWalk one × IsOfWalk other)))
   one-fault g h one other c e = elim (said-of g one c) [
     | inl m ↦ inr (inl m)
@@ -327,10 +323,10 @@ module _ (o : Order) (T : AcceptedRule (points_of o)) (fits : StillFits (childre
     ]
   ]
 
-  lacks-told : (g : FrameValue) (fault : ListFault) → LacksTiles t f w listing → HasCause t f g w listing fault → IsTold fault → ⊥
+  lacks-told : (g : FrameValue) (fault : ListFault) → LacksEntries t f w reading → IsCauseIn t f g w reading fault → IsTold fault → ⊥
   lacks-told g fault h k told = elim (lacks-of_walk g fault h k) [ inl e ↦ subst IsTold e told | inr s ↦ of_walk-untold fault s told ]
 
-  pub verdict : HasOneVerdict (tiling_accepted o T) f w listing
+  pub verdict : HasOneVerdictOn (tiling_accepted o T) f w reading
   verdict = record {
     one_count = one-count;
     right_or_not = right-or_not;

@@ -47,9 +47,9 @@ use Rattle.list_verify.specs.FoundLines.{entries_of, AreLinesIn}
 use Rattle.list_verify.specs.Faults.{OrNoRoom}
 use Rattle.list_verify.specs.Lifted.{entry_lifted, deepest_entry, AreLifted, IsStranger}
 use Rattle.list_verify.specs.LineIndex.{HasAddress, NoneAgain, IsAgain}
-use Rattle.list_verify.specs.Listing.{tile_listed, tiles_listed, NamesTileThere, HasAllTiles, HasStray, IsVerified}
+use Rattle.list_verify.specs.Listing.{tile_listed, tiles_listed, NamesTileThere, HasAllTiles, HasStray, Reading, IsRightReading}
 use Rattle.list_verify.specs.ListLaws.{HasListLaws}
-use Rattle.list_verify.specs.Verdict.{frame_listed, AreApart, HasCause}
+use Rattle.list_verify.specs.Verdict.{frame_listed, AreApart, IsCauseIn}
 use Rattle.list_verify.specs.Walked.{first_refused_at, StopsFor, IsStoppedBy, AreRightLines, IsStrayFault}
 use Rattle.list_verify.specs.declared.list_fault.ListFault.{ListFault}
 use Rattle.list_verify.specs.declared.list_fault.ListFault.TheVariants.{TooLong, BadLine, Address as BadAddress, BadKind, NotOfFrame, Double, Missing, WrongPlace, Stray, DepthLimit, CoordLimit, NoMemory}
@@ -107,10 +107,10 @@ module _ (m : Rule) (settled : IsSettled m) (fits : StillFits (children (tiling_
       (subst (λ a. IsFirstLine (λ (e : Entry). ¬ IsTileOf kinds a e.address) entries i) (sym whole-low)
       (subst (λ k. IsFirstLine (λ (e : Entry). ¬ IsTileOf k (whole g) e.address) entries i) (sym settled.same_child_kinds) h))
 
-  pub stranger-caused : (text : List ℕ) → listing_in (children t) text ≡ Ok entries
+  pub stranger-caused : (reading : Reading) → reading ≡ Ok entries
       → (k : FrameValue) (fault : ListFault) → IsStranger (children t) (whole g) entries fault
-      → HasCause t f k w text fault
-  stranger-caused text read k fault s = subst (HasCause t f k w text) (sym s.is)
+      → IsCauseIn t f k w reading fault
+  stranger-caused reading read k fault s = subst (IsCauseIn t f k w reading) (sym s.is)
       (s.number, refl, record { entries = entries; read = read; first = stranger s.number s.first })
 
   module _ (lines : List program.Entry) (are : AreLifted (children t) (whole g) entries (entries_of lines)) where
@@ -230,10 +230,10 @@ module _ (m : Rule) (settled : IsSettled m) (fits : StillFits (children (tiling_
             → HasEarlier (at_level F low) listing i x
         early x named (j, l, has) = let y = line-at j has.0 has.1 in (j, y.0, l, y.1, sym y.2 ∙ has.2 ∙ named)
 
-    pub double-caused : (text : List ℕ) → listing_in (children t) text ≡ Ok entries → (k : FrameValue) (fault : ListFault)
-        → OrNoRoom (λ e. (i : ℕ) × (e ≡ Double (i + 1)) × IsAgain lines i × NoneAgain lines i) fault → HasCause t f k w text fault
-    double-caused text read k fault (inl e) = subst (HasCause t f k w text) (sym e) tt
-    double-caused text read k fault (inr h) = subst (HasCause t f k w text) (sym h.1) (
+    pub double-caused : (reading : Reading) → reading ≡ Ok entries → (k : FrameValue) (fault : ListFault)
+        → OrNoRoom (λ e. (i : ℕ) × (e ≡ Double (i + 1)) × IsAgain lines i × NoneAgain lines i) fault → IsCauseIn t f k w reading fault
+    double-caused reading read k fault (inl e) = subst (IsCauseIn t f k w reading) (sym e) tt
+    double-caused reading read k fault (inr h) = subst (IsCauseIn t f k w reading) (sym h.1) (
       h.0,
       refl,
       record {
@@ -251,8 +251,8 @@ module _ (m : Rule) (settled : IsSettled m) (fits : StillFits (children (tiling_
       none-double : (i : ℕ) → ¬ IsDouble (frame_listed t f entries) listing i
       none-double i dbl = absurd (none-earlier (length lines) i apart (below i dbl.line dbl.is_line) dbl.line dbl.is_line dbl.earlier)
 
-      pub are-apart : (text : List ℕ) → listing_in (children t) text ≡ Ok entries → AreApart t f text entries
-      are-apart text read = record { lines = record { read = read; of_frame = frame-of }; none_double = λ i e. absurd (none-double i e) }
+      pub are-apart : (reading : Reading) → reading ≡ Ok entries → AreApart t f reading entries
+      are-apart reading read = record { lines = record { read = read; of_frame = frame-of }; none_double = λ i e. absurd (none-double i e) }
 
       low-both : deepest_listed d others ≡ deepest_listed (length g.digits) others
       low-both = say.deepest ∙ sym deep_is ∙ sym (deepest-is m settled fits L g w fit lines (lines-in apart))
@@ -327,9 +327,9 @@ module _ (m : Rule) (settled : IsSettled m) (fits : StillFits (children (tiling_
       centre-back none = sym centre-same ∙ none
 
       -- ---- right lines
-      pub verified : (text : List ℕ) (n : ℕ) → listing_in (children t) text ≡ Ok entries → n ≡ length entries
-          → AreRightLines t g w (entries_of lines) → IsVerified t f w text n
-      verified text n read count h = record {
+      pub verified : (reading : Reading) (n : ℕ) → reading ≡ Ok entries → n ≡ length entries
+          → AreRightLines t g w (entries_of lines) → IsRightReading t f w reading n
+      verified reading n read count h = record {
         entries = entries;
         read = read;
         count = count;
@@ -401,16 +401,17 @@ module _ (m : Rule) (settled : IsSettled m) (fits : StillFits (children (tiling_
         pub stopped : (fault : ListFault) → IsStoppedBy t g k w (entries_of lines) fault → IsStoppedBy t f k w entries fault
         stopped fault s = record { cause = cause-back fault s.cause; not_all = λ none all. absurd (s.not_all (centre-same ∙ none) (has-lifted all)) }
 
-        pub walk-said : (text : List ℕ) → listing_in (children t) text ≡ Ok entries → (fault : ListFault)
-            → OrNoRoom (λ e. IsStoppedBy t g k w (entries_of lines) e ⊎ IsStrayFault t g w (entries_of lines) e) fault → HasCause t f k w text fault
-        walk-said text read fault (inl e) = subst (HasCause t f k w text) (sym e) tt
-        walk-said text read fault (inr (inl s)) = walk-caused t f k w text entries (are-apart text read) fault (stopped fault s)
-        walk-said text read fault (inr (inr s)) = subst (HasCause t f k w text) (sym s.is) (
+        pub walk-said : (reading : Reading) → reading ≡ Ok entries → (fault : ListFault)
+            → OrNoRoom (λ e. IsStoppedBy t g k w (entries_of lines) e ⊎ IsStrayFault t g w (entries_of lines) e) fault
+            → IsCauseIn t f k w reading fault
+        walk-said reading read fault (inl e) = subst (IsCauseIn t f k w reading) (sym e) tt
+        walk-said reading read fault (inr (inl s)) = walk-caused t f k w reading entries (are-apart reading read) fault (stopped fault s)
+        walk-said reading read fault (inr (inr s)) = subst (IsCauseIn t f k w reading) (sym s.is) (
           s.number,
           refl,
           record {
             entries = entries;
-            lines = are-apart text read;
+            lines = are-apart reading read;
             centre_found = centre-back s.centre_found;
             stray = stray s.number s.stray;
           },

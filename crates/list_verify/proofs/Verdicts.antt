@@ -3,44 +3,44 @@ use Rattle.std.proofs.Common.{◌≡◌, ◌⊎◌, inl, inr, ℕ, List, Result,
 use Rattle.theory_walks.specs.Frames.{FrameValue}
 use Rattle.listing_text.specs.declared.listing_fault.ListingFault.{ListingFault}
 use Rattle.listing_text.specs.declared.listing_fault.ListingFault.TheVariants as texts
-use Rattle.listing_text.specs.Listing.{Entry, listing_in}
+use Rattle.listing_text.specs.Listing.{Entry}
 use Rattle.listing_text.specs.Views.{OrWantsMemory}
 use Rattle.plane_geom.specs.declared.window.Window.{Window}
-use Rattle.rule_model.specs.Tiling.{Tiling, children}
+use Rattle.rule_model.specs.Tiling.{Tiling}
 use Rattle.list_verify.specs.declared.list_fault.ListFault.{ListFault}
 use Rattle.list_verify.specs.declared.list_fault.ListFault.TheVariants.{TooLong, BadLine, Address, BadKind, NotOfFrame, Double, Missing, WrongPlace, Stray, DepthLimit, CoordLimit, NoMemory}
-use Rattle.list_verify.specs.Listing.{IsVerified}
-use Rattle.list_verify.specs.OneVerdict.{HasOneVerdict}
-use Rattle.list_verify.specs.Verdict.{fault_of_text, AreApart, HasCause, IsTold, IsOfWalk, LacksTiles}
+use Rattle.list_verify.specs.Listing.{Reading, IsRightReading}
+use Rattle.list_verify.specs.OneVerdict.{HasOneVerdictOn}
+use Rattle.list_verify.specs.Verdict.{fault_of_text, AreApart, IsCauseIn, IsTold, IsOfWalk, LacksEntries}
 use Rattle.list_verify.specs.Walked.{IsStoppedBy}
 use Rattle.list_verify.proofs.OneVerdict.{of_walk-untold}
 
 -- what ends the walk is the cause of its fault
-pub walk-caused : (t : Tiling) (f g : FrameValue) (w : Window) (text : List ℕ) (entries : List Entry)
-    → AreApart t f text entries → (fault : ListFault) → IsStoppedBy t f g w entries fault
-    → HasCause t f g w text fault
-walk-caused t f g w text entries apart (Missing addr) s = record { entries = entries; lines = apart; stopped = s }
-walk-caused t f g w text entries apart (WrongPlace line motion) s = record { entries = entries; lines = apart; stopped = s }
-walk-caused t f g w text entries apart (DepthLimit addr edge) s = record { entries = entries; lines = apart; stopped = s }
-walk-caused t f g w text entries apart (CoordLimit value) s = record { entries = entries; lines = apart; stopped = s }
-walk-caused t f g w text entries apart TooLong s = elim s.cause [ ]
-walk-caused t f g w text entries apart (BadLine line place) s = elim s.cause [ ]
-walk-caused t f g w text entries apart (Address line fault) s = elim s.cause [ ]
-walk-caused t f g w text entries apart (BadKind line) s = elim s.cause [ ]
-walk-caused t f g w text entries apart (NotOfFrame line) s = elim s.cause [ ]
-walk-caused t f g w text entries apart (Double line) s = elim s.cause [ ]
-walk-caused t f g w text entries apart (Stray line) s = elim s.cause [ ]
-walk-caused t f g w text entries apart NoMemory s = elim s.cause [ ]
+pub walk-caused : (t : Tiling) (f g : FrameValue) (w : Window) (reading : Reading) (entries : List Entry)
+    → AreApart t f reading entries → (fault : ListFault) → IsStoppedBy t f g w entries fault
+    → IsCauseIn t f g w reading fault
+walk-caused t f g w reading entries apart (Missing addr) s = record { entries = entries; lines = apart; stopped = s }
+walk-caused t f g w reading entries apart (WrongPlace line motion) s = record { entries = entries; lines = apart; stopped = s }
+walk-caused t f g w reading entries apart (DepthLimit addr edge) s = record { entries = entries; lines = apart; stopped = s }
+walk-caused t f g w reading entries apart (CoordLimit value) s = record { entries = entries; lines = apart; stopped = s }
+walk-caused t f g w reading entries apart TooLong s = elim s.cause [ ]
+walk-caused t f g w reading entries apart (BadLine line place) s = elim s.cause [ ]
+walk-caused t f g w reading entries apart (Address line fault) s = elim s.cause [ ]
+walk-caused t f g w reading entries apart (BadKind line) s = elim s.cause [ ]
+walk-caused t f g w reading entries apart (NotOfFrame line) s = elim s.cause [ ]
+walk-caused t f g w reading entries apart (Double line) s = elim s.cause [ ]
+walk-caused t f g w reading entries apart (Stray line) s = elim s.cause [ ]
+walk-caused t f g w reading entries apart NoMemory s = elim s.cause [ ]
 
 -- so is a fault of the text
-pub text-caused : (t : Tiling) (f g : FrameValue) (w : Window) (text : List ℕ) (fault : ListingFault)
-    → OrWantsMemory (λ e. listing_in (children t) text ≡ Err e) fault
-    → HasCause t f g w text (fault_of_text fault)
-text-caused t f g w text texts.TooLong h = h
-text-caused t f g w text (texts.BadLine line place) h = h
-text-caused t f g w text (texts.Address line fault) h = h
-text-caused t f g w text (texts.BadKind line) h = h
-text-caused t f g w text texts.NoMemory h = tt
+pub text-caused : (t : Tiling) (f g : FrameValue) (w : Window) (reading : Reading) (fault : ListingFault)
+    → OrWantsMemory (λ e. reading ≡ Err e) fault
+    → IsCauseIn t f g w reading (fault_of_text fault)
+text-caused t f g w reading texts.TooLong h = h
+text-caused t f g w reading (texts.BadLine line place) h = h
+text-caused t f g w reading (texts.Address line fault) h = h
+text-caused t f g w reading (texts.BadKind line) h = h
+text-caused t f g w reading texts.NoMemory h = tt
 
 not-room : (fault : ListFault) → IsTold fault → fault ≡ NoMemory → ⊥
 not-room fault told e = subst IsTold e told
@@ -60,14 +60,14 @@ one-of (Double line) = inl tt
 one-of (Stray line) = inl tt
 one-of NoMemory = inr (inr refl)
 
-module _ (t : Tiling) (f g : FrameValue) (w : Window) (text : List ℕ) (V : HasOneVerdict t f w text) where
-  pub complete : (r : Result ℕ ListFault) → IfOk r (λ n. IsVerified t f w text n) → IfErr r (λ fault. HasCause t f g w text fault)
-      → (n : ℕ) → IsVerified t f w text n → (r ≡ Ok n) ⊎ (r ≡ Err NoMemory)
+module _ (t : Tiling) (f g : FrameValue) (w : Window) (reading : Reading) (V : HasOneVerdictOn t f w reading) where
+  pub complete : (r : Result ℕ ListFault) → IfOk r (λ n. IsRightReading t f w reading n) → IfErr r (λ fault. IsCauseIn t f g w reading fault)
+      → (n : ℕ) → IsRightReading t f w reading n → (r ≡ Ok n) ⊎ (r ≡ Err NoMemory)
   complete (Ok k) right cause n is = inl (ap (λ j. Ok j) (V.one_count k n right is))
   complete (Err fault) right cause n is = inr (ap (λ e. Err e) (V.right_or_not n g fault is cause))
 
-  pub told : (r : Result ℕ ListFault) → IfOk r (λ n. IsVerified t f w text n) → IfErr r (λ fault. HasCause t f g w text fault)
-      → (fault : ListFault) → IsTold fault → HasCause t f g w text fault → (r ≡ Err fault) ⊎ (r ≡ Err NoMemory)
+  pub told : (r : Result ℕ ListFault) → IfOk r (λ n. IsRightReading t f w reading n) → IfErr r (λ fault. IsCauseIn t f g w reading fault)
+      → (fault : ListFault) → IsTold fault → IsCauseIn t f g w reading fault → (r ≡ Err fault) ⊎ (r ≡ Err NoMemory)
   told (Ok n) right cause fault is has = absurd (not-room fault is (V.right_or_not n g fault right has))
   told (Err own) right cause fault is has = at (V.one_fault g g own fault cause has)
     where
@@ -79,8 +79,8 @@ module _ (t : Tiling) (f g : FrameValue) (w : Window) (text : List ℕ) (V : Has
       at (inr (inr (inl e))) = absurd (not-room fault is e)
       at (inr (inr (inr h))) = absurd (of_walk-untold fault h.1 is)
 
-  pub lacking : (r : Result ℕ ListFault) → IfOk r (λ n. IsVerified t f w text n) → IfErr r (λ fault. HasCause t f g w text fault)
-      → LacksTiles t f w text → (r ≡ Err NoMemory) ⊎ (fault : ListFault) × (r ≡ Err fault) × IsOfWalk fault
+  pub lacking : (r : Result ℕ ListFault) → IfOk r (λ n. IsRightReading t f w reading n) → IfErr r (λ fault. IsCauseIn t f g w reading fault)
+      → LacksEntries t f w reading → (r ≡ Err NoMemory) ⊎ (fault : ListFault) × (r ≡ Err fault) × IsOfWalk fault
   lacking (Ok n) right cause lacks = absurd (V.lacks_or_right n lacks right)
   lacking (Err own) right cause lacks = at (one-of own)
     where

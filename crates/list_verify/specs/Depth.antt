@@ -9,17 +9,24 @@ use Rattle.listing_text.specs.Listing.{Entry, listing_in}
 use Rattle.theory_listings.specs.FrameListing.{deepest_listed}
 use Rattle.theory_windows.specs.FrameWindow.{IsLeastDepth}
 use Rattle.window_cover.specs.Windows.{box_of}
-use Rattle.list_verify.specs.Listing.{tiles_listed}
+use Rattle.list_verify.specs.Listing.{tiles_listed, Reading}
 
--- n is the greater of the frame's depth and the greatest depth of a line
-pub record IsListedDepth (t : Tiling) (f : FrameValue) (listing : List ℕ) (n : ℕ) : Type 0 where
+-- n is the greater of the frame's depth and the greatest depth of an entry
+pub record IsDepthRead (t : Tiling) (f : FrameValue) (reading : Reading) (n : ℕ) : Type 0 where
   pub entries : List Entry
-  pub read : listing_in (children t) listing ≡ Ok entries
+  pub read : reading ≡ Ok entries
   pub is : n ≡ deepest_listed (length f.digits) (tiles_listed t entries)
 
 -- n is the least depth that is enough for the window and not below that one
-pub record IsEnoughListed (t : Tiling) (f : FrameValue) (w : Window) (listing : List ℕ) (n : ℕ) : Type 0 where
+pub record IsEnoughRead (t : Tiling) (f : FrameValue) (w : Window) (reading : Reading) (n : ℕ) : Type 0 where
   pub entries : List Entry
-  pub read : listing_in (children t) listing ≡ Ok entries
+  pub read : reading ≡ Ok entries
   pub least : IsLeastDepth (points_of t.order) t.rule (full t f) (box_of t w)
       (deepest_listed (length f.digits) (tiles_listed t entries)) n
+
+-- the same of what a text is read as
+abbrev pub IsListedDepth : Tiling → FrameValue → List ℕ → ℕ → Type 0
+IsListedDepth t f listing n = IsDepthRead t f (listing_in (children t) listing) n
+
+abbrev pub IsEnoughListed : Tiling → FrameValue → Window → List ℕ → ℕ → Type 0
+IsEnoughListed t f w listing n = IsEnoughRead t f w (listing_in (children t) listing) n

@@ -1,5 +1,5 @@
 -- Listings of a window on a frame of a tiling, and when one is right.
-use Rattle.std.specs.Prelude.{◌≡◌, ℕ, List, map, length, None, Ok}
+use Rattle.std.specs.Prelude.{◌≡◌, ℕ, List, map, length, None, Result, Ok}
 use Rattle.std.specs.List.{AllByRecursion}
 use Rattle.cyclo_points.specs.Order.{points_of, is_refused}
 use Rattle.cyclo_points.specs.Point.{point_in, IsOf}
@@ -9,6 +9,7 @@ use Rattle.rule_model.specs.Tiling.{Tiling, children}
 use Rattle.theory_walks.specs.Ancestors.{full}
 use Rattle.theory_walks.specs.Containing.{first_refused_outward}
 use Rattle.theory_walks.specs.Frames.{FrameValue}
+use Rattle.listing_text.specs.declared.listing_fault.ListingFault.{ListingFault}
 use Rattle.listing_text.specs.Listing.{Entry, listing_in}
 use Rattle.theory_listings.specs.FrameListing.{IsRightListing, AreUnrefused, AreAllListed, NamesMeeting}
 use Rattle.theory_listings.specs.Lines.{IsFirstLine}
@@ -34,15 +35,24 @@ pub record IsRightFor (t : Tiling) (f : FrameValue) (w : Window) (entries : List
   pub right : IsRightListing (points_of t.order) t.rule (full t f) (box_of t w) (length f.digits)
       (tiles_listed t entries)
 
--- The text is read as a right listing of n lines. No value on the way to the centre is refused, and no shift
--- of a tile that meets the window.
-pub record IsVerified (t : Tiling) (f : FrameValue) (w : Window) (text : List ℕ) (n : ℕ) : Type 0 where
+-- what is read of a listing: its entries, or its first fault
+abbrev pub Reading : Type 0
+Reading = Result (List Entry) ListingFault
+
+-- n entries are read, and they are right. No value on the way to the centre is refused, and no shift of a
+-- tile that meets the window.
+pub record IsRightReading (t : Tiling) (f : FrameValue) (w : Window) (reading : Reading)
+    (n : ℕ) : Type 0 where
   pub entries : List Entry
-  pub read : listing_in (children t) text ≡ Ok entries
+  pub read : reading ≡ Ok entries
   pub count : n ≡ length entries
   pub right : IsRightFor t f w entries
   pub unrefused : AreUnrefused (is_refused t.order) (tiles_listed t entries)
   pub centre_found : first_refused_outward t f (point_in t.order w.centre) ≡ None
+
+-- the text is read as a right listing of n lines
+abbrev pub IsVerified : Tiling → FrameValue → Window → List ℕ → ℕ → Type 0
+IsVerified t f w text n = IsRightReading t f w (listing_in (children t) text) n
 
 -- the tile that an address names in the frame meets the window
 abbrev pub NamesTileThere : Tiling → FrameValue → Window → Entry → Type 0

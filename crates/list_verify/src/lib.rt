@@ -8,6 +8,7 @@
 
 mod as_written;
 mod crossed_edges;
+pub mod entries;
 mod found_lines;
 pub mod laws;
 mod lifted_lines;

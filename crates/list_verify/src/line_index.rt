@@ -109,6 +109,20 @@ pub(crate) fn multiplier_of(listing: &[u8]) -> u64
     hasher.finish() % MODULUS
 }
 
+/// Returns the multiplier for entries, from a hash of all their addresses.
+pub(crate) fn multiplier_of_entries(entries: &[Entry]) -> u64
+    ensures below { result < 2305843009213693951 }
+{
+    let mut hasher = DefaultHasher::new();
+    for entry in entries {
+        hasher.write(&[entry.address.kind]);
+        for digit in entry.address.digits.as_slice() {
+            hasher.write(&[digit.child, digit.parent]);
+        }
+    }
+    hasher.finish() % MODULUS
+}
+
 /// Returns a number modulo the modulus. Since 2^61 is 1 there, the digits to the base 2^61 can be added.
 fn reduced(number: u128) -> u64
     requires below { number < 2 ^ 124 }

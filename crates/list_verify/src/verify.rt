@@ -15,12 +15,10 @@ ghost use Rattle.list_verify.specs.Verdict.{HasCause, IsTold, IsOfWalk, LacksTil
 ghost use Rattle.list_verify.specs.Verdict.{IsVerdict};
 
 use crate::as_written::as_written;
+use crate::entries::verdict_of;
 use crate::laws::one_verdict_law;
-use crate::lifted_lines::lift_lines;
-use crate::line_index::{LineIndex, multiplier_of};
+use crate::line_index::multiplier_of;
 use crate::list_fault::ListFault;
-use crate::list_laws::walk_laws;
-use crate::walk::Walk;
 use lazy_walk::frame::Frame;
 use listing_text::reading::read_listing;
 use plane_geom::window::Window;
@@ -109,29 +107,10 @@ fn by_walk(
     requires window_fits { IsWindow window.now }
     ensures { IsVerdict (tiling_of machine.now) frame.old frame.new window.now listing.now result }
 {
-    walk_laws(machine);
     let mut entries = match read_listing(alloc, machine.checked().uses(), listing) {
         Ok(entries) => entries,
         Err(fault) => return Err(fault.into()),
     };
-    let count = entries.len() as u32;
     let lines = entries.as_mut_slice();
-    match lift_lines(machine, frame, lines) {
-        Ok(()) => {}
-        Err(fault) => return Err(fault),
-    }
-    let index = match LineIndex::new(alloc, multiplier_of(listing), lines) {
-        Ok(index) => index,
-        Err(fault) => return Err(fault),
-    };
-    let walk = Walk {
-        machine,
-        window,
-        lines,
-        index: &index,
-    };
-    match walk.run(alloc, frame) {
-        Ok(()) => Ok(count),
-        Err(fault) => Err(fault),
-    }
+    verdict_of(alloc, machine, frame, window, lines, multiplier_of(listing))
 }

@@ -1,6 +1,6 @@
 -- Arrays of tiles and addresses as a list of the tiles of a window: when it is right, and what is wrong with
 -- it.
-use Rattle.std.specs.Prelude.{◌≡◌, ◌⊎◌, ℕ, ◌-◌, ◌<◌, ◌≤◌, List, [], ◌∷◌, length, None}
+use Rattle.std.specs.Prelude.{◌≡◌, ◌⊎◌, ℕ, ◌-◌, ◌<◌, ◌≤◌, List, [], ◌∷◌, length, None, Ok}
 use Rattle.cyclo_points.specs.Order.{is_refused}
 use Rattle.cyclo_points.specs.Point.{point_in}
 use Rattle.theory_listings.specs.FrameListing.{AreUnrefused}
@@ -10,11 +10,10 @@ use Rattle.plane_geom.specs.declared.window.Window.{Window}
 use Rattle.rule_model.specs.Tiling.{Tiling}
 use Rattle.listing_text.specs.Limits.{most_lines}
 use Rattle.listing_text.specs.Listing.{Entry}
-use Rattle.listing_text.specs.Written.{entries_text}
 use Rattle.list_verify.specs.declared.list_fault.ListFault.{ListFault}
 use Rattle.list_verify.specs.declared.list_fault.ListFault.TheVariants.{NotOfFrame, Double, Missing, WrongPlace, Stray, DepthLimit, CoordLimit, NoMemory}
 use Rattle.list_verify.specs.Listing.{IsRightFor, tiles_listed}
-use Rattle.list_verify.specs.Verdict.{HasCause}
+use Rattle.list_verify.specs.Verdict.{IsCauseIn}
 use Rattle.c_values.specs.declared.plain_address.PlainAddress.{PlainAddress}
 use Rattle.c_values.specs.declared.plain_tile.PlainTile.{PlainTile}
 use Rattle.c_values.specs.declared.plain_window.PlainWindow.{PlainWindow}
@@ -33,10 +32,6 @@ abbrev pub entries_given : List PlainTile → List PlainAddress → List Entry
 entries_given [] addrs = []
 entries_given (tile ∷ tiles) [] = []
 entries_given (tile ∷ tiles) (addr ∷ addrs) = entry_given tile addr ∷ entries_given tiles addrs
-
--- their listing: a line for each entry
-abbrev pub listing_given : List PlainTile → List PlainAddress → List ℕ
-listing_given tiles addrs = entries_text (entries_given tiles addrs)
 
 -- the address names a tile of the tiling, which has the kind that is given, and the turn and the shift give a
 -- motion
@@ -101,15 +96,15 @@ status_told (CoordLimit value) = coord_limit
 status_told NoMemory = no_memory
 status_told _ = bad_listing
 
--- All entries are tiles, and their listing is not right, for a cause in the frame as it had grown by then.
--- This is the status of the fault, its number and its index.
-pub record IsFaultOfListing (t : Tiling) (f : FrameValue) (w : Window) (tiles : List PlainTile)
+-- All entries are tiles, and they are not right, for a cause in the frame as it had grown by then. This is
+-- the status of the fault, its number and its index.
+pub record IsFaultOfEntries (t : Tiling) (f : FrameValue) (w : Window) (tiles : List PlainTile)
     (addrs : List PlainAddress) (status fault index : ℕ) : Type 0 where
   pub entries : AreEntries t tiles addrs
   pub why : ListFault
   pub frame : FrameValue
   pub grown : GrowsTo t f frame
-  pub cause : HasCause t f frame w (listing_given tiles addrs) why
+  pub cause : IsCauseIn t f frame w (Ok (entries_given tiles addrs)) why
   pub its_status : status ≡ status_told why
   pub its_fault : status ≡ bad_listing → fault ≡ fault_of why
   pub some_fault : status ≡ bad_listing → 2 ≤ fault
@@ -122,8 +117,8 @@ pub record TellsNoTile (t : Tiling) (tiles : List PlainTile) (addrs : List Plain
   pub is_fault : fault ≡ fault_no_tile
   pub first : IsFirstNoEntry t tiles addrs index
 
--- the arrays are not those of the window: an entry is no tile, or their listing is not right
+-- the arrays are not those of the window: an entry is no tile, or they are not right
 abbrev pub AreWrong : Tiling → FrameValue → Window → List PlainTile → List PlainAddress
     → (status fault index : ℕ) → Type 0
 AreWrong t f w tiles addrs status fault index = TellsNoTile t tiles addrs status fault index
-    ⊎ IsFaultOfListing t f w tiles addrs status fault index
+    ⊎ IsFaultOfEntries t f w tiles addrs status fault index

@@ -1,20 +1,22 @@
 //! Whether arrays have the tiles of a window.
-ghost use Rattle.std.specs.Prelude.{◌≡◌, ◌↔◌, ◌⊎◌, ◌<◌, ◌≤◌, ◌++◌, ◌∷◌, [], ℕ, length, IfOk, IfErr, IsSome, IsTrue, IfSome};
-ghost use Rattle.cyclo_points.specs.Text.{newline};
+ghost use Rattle.std.specs.Prelude.{◌≡◌, ◌↔◌, ◌⊎◌, ◌<◌, ◌≤◌, ℕ, length, IfOk, IfErr, IsSome, IsTrue, IfSome};
+ghost use Rattle.std.specs.List.{All};
+ghost use Rattle.theory_addresses.specs.Address.{Fits};
+ghost use Rattle.tile_shape.specs.Views.{address_of};
 ghost use Rattle.theory_walks.specs.Frames.{IsFrameOf};
 ghost use Rattle.rule_model.specs.Tiling.{tiling_of, children};
 ghost use Rattle.listing_text.specs.Limits.{most_lines};
 ghost use Rattle.listing_text.specs.Views.{entry_of};
-ghost use Rattle.listing_text.specs.Written.{entry_text, CanBeListed};
+ghost use Rattle.list_verify.specs.FoundLines.{entries_of};
 ghost use Rattle.window_cover.specs.Windows.{IsWindow};
 ghost use Rattle.c_values.specs.Addresses.{NamesTile};
 ghost use Rattle.c_values.specs.Frames.{frame_in};
 ghost use Rattle.c_values.specs.Statuses.{ok, bad_words, bad_address, bad_listing, no_memory};
 ghost use Rattle.c_values.specs.Windows.{window_in};
 ghost use Rattle.tiling_c.specs.Arrays.{plain_tile_at, plain_address_at};
-ghost use Rattle.tiling_c.specs.Verifying.{entry_given, listing_given, IsEntry, IsFirstNoEntry, AsksToVerify, AreTilesOf, AreWrong, fault_of, line_told, status_told};
-ghost use Rattle.tiling_c.specs.declared.verifying.NotListed.{NotListed};
-ghost use Rattle.tiling_c.specs.declared.verifying.NotListed.TheVariants as unlisted;
+ghost use Rattle.tiling_c.specs.Verifying.{entry_given, entries_given, AreEntries, IsEntry, IsFirstNoEntry, AsksToVerify, AreTilesOf, AreWrong, fault_of, line_told, status_told};
+ghost use Rattle.tiling_c.specs.declared.verifying.NoEntries.{NoEntries};
+ghost use Rattle.tiling_c.specs.declared.verifying.NoEntries.TheVariants as no_entries;
 
 use c_values::plain_address::PlainAddress;
 use c_values::plain_frame::PlainFrame;
@@ -24,13 +26,10 @@ use c_values::shared_machine::SharedMachine;
 use c_values::status::{
     BAD_ADDRESS, BAD_LISTING, BAD_WORDS, COORD_LIMIT, DEPTH_LIMIT, NO_MEMORY, OK,
 };
-use cyclo_points::point::Point;
-use layer_api::line::Line;
 use lazy_walk::frame::Frame;
+use list_verify::entries::verify_entries;
 use list_verify::list_fault::ListFault;
-use list_verify::verify::verify;
 use listing_text::entry::Entry;
-use listing_text::laws::written_law;
 use plane_geom::window::Window;
 use std::alloc::Global;
 use tile_place::machine::Machine;
@@ -56,9 +55,9 @@ pub const WRONG_PLACE: u8 = 5;
 /// The tile of the entry does not meet the window.
 pub const STRAY: u8 = 6;
 
-/// Why there is no listing of two arrays.
+/// Why two arrays are no entries.
 #[derive(Clone, Copy)]
-enum NotListed {
+enum NoEntries {
     /// The entry at this index is no tile.
     NoTile { index: usize },
     /// Memory ran out.
@@ -78,58 +77,36 @@ fn entry(machine: &Machine, tile: &PlainTile, addr: &PlainAddress) -> Option<Ent
     Some(Entry { motion, address })
 }
 
-/// States that a point has four coefficients, which contracts see as a list.
-fn four_coefficients(p: &Point)
-    ensures { length p.now.c ≡ 4 }
-{
-    let _four = p.c.as_slice();
-}
-
-/// Makes the line of an entry, with its newline.
-fn put_line(line: &mut Line, entry: &Entry)
-    ensures line { line.new ≡ entry_text (entry_of entry.now) ++ newline ∷ [] }
-    ensures four { length entry.now.motion.shift.c ≡ 4 }
-{
-    line.clear();
-    line.put(b'\n');
-    line.put_address(&entry.address);
-    line.put(b' ');
-    line.put_motion(&entry.motion);
-    line.put(b' ');
-    line.put_small(entry.address.kind);
-    four_coefficients(&entry.motion.shift);
-}
-
-/// Returns the listing of two arrays.
-fn listing(
+/// Returns two arrays as entries.
+fn entries(
     alloc: Global,
     machine: &Machine,
     tiles: &[PlainTile],
     addrs: &[PlainAddress],
-) -> Result<Vec<u8>, NotListed>
+) -> Result<Vec<Entry>, NoEntries>
     requires same { length addrs.now ≡ length tiles.now }
-    ensures text { IfOk result (λ text. text.items ≡ listing_given tiles.now addrs.now) }
-    ensures entries { IfOk result (λ _. (i : ℕ) → i < length tiles.now
-        → IsEntry (tiling_of machine.now) (plain_tile_at tiles.now i) (plain_address_at addrs.now i)
-        × CanBeListed (children (tiling_of machine.now))
-        (entry_given (plain_tile_at tiles.now i) (plain_address_at addrs.now i))) }
-    ensures no_tile { IfErr result (λ fault. (fault ≡ unlisted.NoMemory)
-        ⊎ (i : ℕ) × (fault ≡ unlisted.NoTile i)
+    ensures given { IfOk result (λ own. entries_of own.items ≡ entries_given tiles.now addrs.now) }
+    ensures are_entries { IfOk result (λ _. AreEntries (tiling_of machine.now) tiles.now addrs.now) }
+    ensures fit { IfOk result (λ own. All
+        (λ e. Fits (children (tiling_of machine.now)) (address_of e.address)) own.items) }
+    ensures no_tile { IfErr result (λ fault. (fault ≡ no_entries.NoMemory)
+        ⊎ (i : ℕ) × (fault ≡ no_entries.NoTile i)
         × IsFirstNoEntry (tiling_of machine.now) tiles.now addrs.now i) }
 {
-    let mut text = Vec::new(alloc);
-    let mut line = Line::new();
+    let mut entries = match Vec::with_capacity(alloc, tiles.len()) {
+        Ok(entries) => entries,
+        Err(_) => return Err(NoEntries::NoMemory),
+    };
     for index in 0..tiles.len() {
         let Some(entry) = entry(machine, &tiles[index], &addrs[index]) else {
-            return Err(NotListed::NoTile { index });
+            return Err(NoEntries::NoTile { index });
         };
-        put_line(&mut line, &entry);
-        match text.extend_from_slice(line.as_bytes()) {
+        match entries.push(entry) {
             Ok(()) => {}
-            Err(_) => return Err(NotListed::NoMemory),
+            Err(_) => return Err(NoEntries::NoMemory),
         }
     }
-    Ok(text)
+    Ok(entries)
 }
 
 /// Returns the status of a fault.
@@ -196,18 +173,16 @@ fn judge(
     ensures index_unchanged { ¬ result ≡ bad_listing → index.new ≡ index.old }
     ensures not_given { (¬ result ≡ bad_words) × (¬ result ≡ bad_address) }
 {
-    written_law();
-    let _usable = machine.checked().uses().kinds();
-    let text = match listing(alloc, machine, tiles, addrs) {
-        Ok(text) => text,
-        Err(NotListed::NoTile { index: first }) => {
+    let entries = match entries(alloc, machine, tiles, addrs) {
+        Ok(entries) => entries,
+        Err(NoEntries::NoTile { index: first }) => {
             *fault = NO_TILE;
             *index = first;
             return BAD_LISTING;
         }
-        Err(NotListed::NoMemory) => return NO_MEMORY,
+        Err(NoEntries::NoMemory) => return NO_MEMORY,
     };
-    let why = match verify(alloc, machine, frame, window, text.as_slice()) {
+    let why = match verify_entries(alloc, machine, frame, window, entries) {
         Ok(_) => return OK,
         Err(why) => why,
     };

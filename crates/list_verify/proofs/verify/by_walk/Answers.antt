@@ -1,6 +1,5 @@
 use Rattle.std.proofs.Common.{◌≡◌, ◌≤◌, inl, inr, List, All, length, get_or, Ok, Err, sym, ap, ◌∙◌, subst, arith}
 use Rattle.std.proofs.lemmas.Bool.{cases_lt}
-use Rattle.std.proofs.lemmas.List.{length-map}
 use Rattle.theory_addresses.specs.Address.{Fits}
 use Rattle.tile_shape.specs.Accepted.{IsAcceptedAddress}
 use Rattle.tile_shape.specs.Views.{address_of}
@@ -14,7 +13,7 @@ use Rattle.rule_model.specs.declared.rule.Rule.{Rule}
 use Rattle.rule_model.specs.Tiling.{tiling_of, children}
 use Rattle.list_verify.specs.FoundLines.{entries_of}
 use Rattle.list_verify.specs.Verdict.{IsVerdict}
-use Rattle.list_verify.proofs.Answered.{text-refused, stranger-refused, as-many, double-refused, on-frame, its-fault, walk-refused, walk-accepted}
+use Rattle.list_verify.proofs.Answered.{text-refused, of-text}
 use Rattle.list_verify.proofs.verify.by_walk.Goals.{After-uses, After-as_mut_slice-lines}
 use Rattle.list_verify.proofs.verify.by_walk.Goals as goal
 
@@ -27,9 +26,6 @@ read : (c : After-as_mut_slice-lines) → c.uses.result.now ≡ children (tiling
 read c e = subst (λ (lines : List Entry). listing_in (children (tiling_of c.args.machine.now)) c.args.listing.now ≡ Ok (entries_of lines))
     (sym c.as_mut_slice-lines.ensures.value)
     (subst (λ ks. listing_in ks c.args.listing.now ≡ Ok (entries_of c.in-Ok.entries.items)) e c.in-Ok.ensures.read)
-
-count : (c : After-as_mut_slice-lines) → length (entries_of c.as_mut_slice-lines.result.now) ≡ length c.in-Ok.entries.items
-count c = length-map c.as_mut_slice-lines.result.now entry_of ∙ ap length c.as_mut_slice-lines.ensures.value
 
 few : (c : After-as_mut_slice-lines) → length (lines_in c.args.listing.now) ≤ most_lines
 few c = elim (cases_lt most_lines (length (lines_in c.args.listing.now))) [
@@ -47,76 +43,22 @@ returns-in-Err c =
     (kinds ((goal.at.returns-in-Err c).After-uses)) c.in-Err.ensures.fault)
     c.in-Err.ensures.too_long)
 
-pub lift_lines-requires-clause-fit : goal.lift_lines-requires-clause-fit
-lift_lines-requires-clause-fit c =
+pub verdict_of-requires-clause-fit : goal.verdict_of-requires-clause-fit
+verdict_of-requires-clause-fit c =
     subst (All (λ (line : Entry). Fits (children (tiling_of c.args.machine.now)) (address_of line.address))) (sym c.as_mut_slice-lines.ensures.value)
     (λ k d l. (subst (λ ks. IsAcceptedAddress ks (address_of (get_or c.in-Ok.entries.items k d).address))
-    (kinds (goal.at.lift_lines-requires-clause-fit c).After-uses) (c.in-Ok.ensures.accepted k d l)).fits)
+    (kinds (goal.at.verdict_of-requires-clause-fit c).After-uses) (c.in-Ok.ensures.accepted k d l)).fits)
 
-pub returns-in-Err-lift_lines : goal.returns-in-Err-lift_lines
-returns-in-Err-lift_lines c =
-    let at = goal.at.returns-in-Err-lift_lines c in
-    stranger-refused c.args.machine.now c.walk_laws.ensures c.args.frame.now c.requires.frame c.args.window.now
-    c.requires.window_fits c.args.listing.now (entries_of c.as_mut_slice-lines.result.now)
-    (read at.After-as_mut_slice-lines (kinds at.After-uses)) (few at.After-as_mut_slice-lines)
-    c.lift_lines.new.frame c.in-Err-lift_lines.ensures.frame c.in-Err-lift_lines.ensures.depth
-    c.in-Err-lift_lines.fault c.in-Err-lift_lines.ensures.fault
-
-pub returns-in-Err-new : goal.returns-in-Err-new
-returns-in-Err-new c =
-    let at = goal.at.returns-in-Err-new c in
-    double-refused c.args.machine.now c.walk_laws.ensures c.args.frame.now c.requires.frame c.args.window.now
-    c.requires.window_fits c.args.listing.now (entries_of c.as_mut_slice-lines.result.now)
-    (read at.After-as_mut_slice-lines (kinds at.After-uses)) (few at.After-as_mut_slice-lines)
-    c.lift_lines.new.frame c.in-Ok-lift_lines.ensures.frame c.in-Ok-lift_lines.ensures.depth
-    c.lift_lines.new.lines c.in-Ok-lift_lines.ensures.lifted
-    c.in-Err-new.fault c.in-Err-new.ensures.double
-
--- ---- the walk
-pub run-requires : goal.run-requires
-run-requires c =
-    let at = goal.at.run-requires c in
-    record {
-      on_frame = record {
-        lines = on-frame c.args.machine.now c.walk_laws.ensures c.args.frame.now c.requires.frame c.args.window.now
-            c.requires.window_fits c.args.listing.now (entries_of c.as_mut_slice-lines.result.now)
-            (read at.After-as_mut_slice-lines (kinds at.After-uses)) (few at.After-as_mut_slice-lines)
-            c.lift_lines.new.frame c.in-Ok-lift_lines.ensures.frame c.in-Ok-lift_lines.ensures.depth
-            c.lift_lines.new.lines c.in-Ok-lift_lines.ensures.lifted c.in-Ok-new.ensures.distinct;
-        index = c.in-Ok-new.ensures.index;
-        few =
-            let many = as-many c.args.machine.now c.walk_laws.ensures c.args.frame.now c.requires.frame c.args.window.now
-            c.requires.window_fits c.args.listing.now (entries_of c.as_mut_slice-lines.result.now)
-            (read at.After-as_mut_slice-lines (kinds at.After-uses)) (few at.After-as_mut_slice-lines)
-            c.lift_lines.new.frame c.in-Ok-lift_lines.ensures.frame c.in-Ok-lift_lines.ensures.depth
-            c.lift_lines.new.lines c.in-Ok-lift_lines.ensures.lifted in
-            let all = count at.After-as_mut_slice-lines in
-            let lines = c.in-Ok.ensures.lines in
-            let most = few at.After-as_mut_slice-lines in
-            omega (arith, many, all, lines, most);
-        window_fits = c.requires.window_fits;
-      };
-    }
+pub verdict_of-requires-clause-few : goal.verdict_of-requires-clause-few
+verdict_of-requires-clause-few c =
+    let same = ap length c.as_mut_slice-lines.ensures.value in
+    let lines = c.in-Ok.ensures.lines in
+    let most = few (goal.at.verdict_of-requires-clause-few c).After-as_mut_slice-lines in
+    omega (arith, same, lines, most)
 
 pub returns : goal.returns
 returns c =
     let at = goal.at.returns c in
-    walk-refused c.args.machine.now c.walk_laws.ensures c.args.frame.now c.requires.frame c.args.window.now
-    c.requires.window_fits c.args.listing.now (entries_of c.as_mut_slice-lines.result.now)
-    (read at.After-as_mut_slice-lines (kinds at.After-uses)) (few at.After-as_mut_slice-lines)
-    c.lift_lines.new.frame c.in-Ok-lift_lines.ensures.frame c.in-Ok-lift_lines.ensures.depth
-    c.lift_lines.new.lines c.in-Ok-lift_lines.ensures.lifted c.in-Ok-new.ensures.distinct
-    c.run.new.frame c.in-Err-run.fault (its-fault c.in-Err-run.ensures.fault)
-
-pub returns-in-Ok-run : goal.returns-in-Ok-run
-returns-in-Ok-run c =
-    let at = goal.at.returns-in-Ok-run c in
-    subst (λ (k : FrameValue). IsVerdict (tiling_of c.args.machine.now) c.args.frame.now k c.args.window.now
-    c.args.listing.now (Ok c.len-count.result))
-    (sym c.in-Ok-run.ensures.right.stays)
-    (walk-accepted c.args.machine.now c.walk_laws.ensures c.args.frame.now c.requires.frame c.args.window.now
-    c.requires.window_fits c.args.listing.now (entries_of c.as_mut_slice-lines.result.now)
-    (read at.After-as_mut_slice-lines (kinds at.After-uses)) (few at.After-as_mut_slice-lines)
-    c.lift_lines.new.frame c.in-Ok-lift_lines.ensures.frame c.in-Ok-lift_lines.ensures.depth
-    c.lift_lines.new.lines c.in-Ok-lift_lines.ensures.lifted c.in-Ok-new.ensures.distinct
-    c.len-count.result (omega (arith, c.len-count.ensures, c.in-Ok.entries.ok, count at.After-as_mut_slice-lines)) c.in-Ok-run.ensures.right.right)
+    of-text (tiling_of c.args.machine.now) c.args.frame.now c.verdict_of.new.frame c.args.window.now c.args.listing.now
+    (entries_of c.as_mut_slice-lines.result.now) (read at.After-as_mut_slice-lines (kinds at.After-uses))
+    (few at.After-as_mut_slice-lines) c.verdict_of.result c.verdict_of.ensures

@@ -2,7 +2,8 @@ use Rattle.cyclo_points.specs.declared.order.Order.{Order}
 use Rattle.cyclo_points.specs.declared.order.Order.TheVariants.{Four, Six, Eight, Ten}
 use Rattle.cyclo_points.specs.Order.{is_refused}
 use Rattle.list_verify.specs.OneVerdict.{OneVerdictLaw}
-use Rattle.rule_model.specs.Tiling.{tiling_listed}
+use Rattle.listing_text.specs.Listing.{listing_in}
+use Rattle.rule_model.specs.Tiling.{tiling_listed, children}
 use Rattle.rule_model.specs.Views.{as_edition}
 use Rattle.builtin_rules.specs.Named.{named}
 use Rattle.tile_app.proofs.verify.builtin_verdict_law.Goals as goal
@@ -19,7 +20,7 @@ returns c = λ name f w listing frame window.
       numbered = accepted.numbered;
       edge_to_edge = accepted.edge_to_edge;
     })
-    f w listing frame window
+    f w (listing_in (children (tiling_listed (named name))) listing) frame window
   where
     law : (o : Order) → OneVerdictLaw o
     law Four = c.one_verdict_law.ensures
