@@ -28,6 +28,7 @@ from pagnetuf import (
 )
 from pagnetuf.engine import ADDRESS, TILE, Box, Frame
 from pagnetuf.library import FRAME, WINDOW
+from pagnetuf.rule_numbers import NUMBERS
 from pagnetuf.texts import address_texts as theirs_texts
 
 ADDRESSES = (
@@ -77,6 +78,7 @@ def same(one, other):
 
 def test_the_layout_is_the_headers():
     assert (TILE.itemsize, ADDRESS.itemsize, FRAME.itemsize, WINDOW.itemsize) == (40, 130, 144, 40)
+    assert NUMBERS.itemsize == 17144
 
 
 def test_windows(both):
