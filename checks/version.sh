@@ -20,7 +20,7 @@ case $version in
 esac
 same 'the number of the interface, by the version,' "$number" "$abi"
 same 'ABI of crates/tiling_c' "$abi" "$(found crates/tiling_c/src/machines.rt '^const ABI: u32 = \([0-9]*\);$')"
-same 'LATEST_ABI of python/pagnetuf/library.py' "$abi" "$(found python/pagnetuf/library.py '^LATEST_ABI = \([0-9]*\)$')"
+same 'ABI of python/pagnetuf/library.py' "$abi" "$(found python/pagnetuf/library.py '^ABI = \([0-9]*\)$')"
 same 'ABI of js/pagnetuf.js' "$abi" "$(found js/pagnetuf.js '^const ABI = \([0-9]*\);$')"
 grep -q '^dynamic = .*version' "$top/python/pyproject.toml" || same 'the version of python/pyproject.toml' "$version" "$(found python/pyproject.toml '^version = "\(.*\)"$')"
 same 'the version of js/package.json' "$version" "$(found js/package.json '^ *"version": "\(.*\)",$')"
