@@ -1,4 +1,4 @@
-//! Trials of the top call, `run`: what the program prints, draws and notes, compared with values from outside.
+//! Trials of the top call, `run`: what the program prints, draws and notes, against values from outside.
 //!
 //! Streams work, or fail at a given call. Layers are passed in: one refuses, and one format has none. Random
 //! windows, and windows that graze edges and vertices, are compared with lists of all tiles of the frame, and
