@@ -1,5 +1,6 @@
 // What people write in TypeScript, against js/pagnetuf.d.ts: tsc --noEmit. It is compiled, and never run.
-import { Address, Board, Engine, Named, Patch, Refusal, Tiling, WholePatch, Window } from "../../js/pagnetuf.js";
+import { Address, Board, Engine, Named, Patch, Placed, Refusal, Rule } from "../../js/pagnetuf.js";
+import { Tiling, WholePatch, Window } from "../../js/pagnetuf.js";
 
 async function use(): Promise<void> {
   const engine: Engine = await Engine.load(new URL("tiling.wasm", "file:///"));
@@ -14,6 +15,8 @@ async function use(): Promise<void> {
   const wholes: WholePatch = window.whole().connected(60);
   const halves: Named<string>[] = wholes.halves(0);
   const kinds: Uint8Array = wholes.kinds, xy: Float64Array = wholes.xy(), shifts: Int32Array = window.shifts;
+  const rule: Rule = p3.rule(), child: Placed = rule.kinds[0].children[0];
+  const met: Uint8Array = p3.meets(window, { half: [9, 9] });
   const patch: Patch = window.supertiles(2).chosen([0]);
   const board: Board = patch.toJSON(), star: string = p3.star(text, 0).map((it) => it.address).join();
   const svg: string = p3.draw({ layers: ["svg", "list"], whole: true }) + wholes.toSVG({ colours: (tile) => `#${tile}` });
@@ -23,6 +26,7 @@ async function use(): Promise<void> {
     if (refusal instanceof Refusal && refusal.name === "Outside") console.log(refusal.status, refusal.fields[0]);
   }
   console.log(other.closed, third.memoryBytes, object.digits[0].child, halves, kinds, xy, shifts, board, star, svg);
+  console.log(child, met);
   // @ts-expect-error: there is no such layer
   p3.draw({ layers: ["png"] });
   // @ts-expect-error: a seed is no BigInt

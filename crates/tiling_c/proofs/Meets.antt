@@ -24,6 +24,8 @@ use Rattle.tile_place.specs.Corners.{AreCorners}
 use Rattle.tile_place.proofs.Plane.{IsSettled, its_rule}
 use Rattle.theory_dissection.proofs.Setting.{Setting}
 use Rattle.theory_descents.specs.MeetingTest.{polygon_meets}
+use Rattle.theory_descents.specs.Insets.{IsBeyondBox}
+use Rattle.theory_descents.proofs.Carried.{beyond_law}
 use Rattle.theory_descents.proofs.Descent.{meets-is, is-meets}
 use Rattle.window_cover.specs.Windows.{MeetsWindow, polygon_of, window_box}
 use Rattle.c_values.specs.declared.plain_tile.PlainTile.{PlainTile}
@@ -67,6 +69,13 @@ module _ (m : Rule) (settled : IsSettled m) (p : PlainTile) (exists : p.kind < l
 
   abbrev setting : Setting
   setting = record { points = points_of m.order; laws = laws_of m.order; accepted = its_rule m settled }
+
+  -- a tile beyond one of the sides does not meet the window
+  pub beyond_window : (w : Window) → IsBeyondBox (reals_of m.order) (window_box m.order w) (spots_of m.order corners)
+      → ¬ MeetsWindow (tiling_of m) w (tile_given (tiling_of m) p)
+  beyond_window w beyond =
+      beyond_law (points_of m.order) (laws_of m.order) (window_box m.order w) (polygon_of (tiling_of m) (tile_given (tiling_of m) p))
+      (subst (IsBeyondBox (reals_of m.order) (window_box m.order w)) spots beyond)
 
   module _ (w : Window) (wide : 0 < w.w) (high : 0 < w.h) where
     pub meets_window : (b : Bool) → b ≡ polygon_meets (reals_of m.order) (window_box m.order w) (spots_of m.order corners)

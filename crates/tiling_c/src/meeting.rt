@@ -19,6 +19,7 @@ use cyclo_points::point::Point;
 use plane_geom::window::Window;
 use tile_place::machine::Machine;
 use window_descent::meeting::meets;
+use window_descent::standing::{Standing, beside};
 
 /// Returns true if the numbers are a tile of a machine's rule at its place.
 fn is_tile(machine: &Machine, tile: &PlainTile) -> bool
@@ -52,7 +53,8 @@ fn window_asked(
     window.window(machine.checked().order())
 }
 
-/// Returns true if a tile meets a window.
+/// Returns true if a tile meets a window. Most tiles that don't are beyond one of its sides, so this is tested
+/// first.
 fn tile_meets(machine: &Machine, tile: &PlainTile, window: &Window) -> bool
     requires is_tile { IsPlainTile (tiling_of machine.now) tile.now }
     requires window_fits { IsWindow window.now }
@@ -65,7 +67,12 @@ fn tile_meets(machine: &Machine, tile: &PlainTile, window: &Window) -> bool
     };
     let mut corners = ArrayVec::new();
     machine.put_corners(tile.kind, &motion, &mut corners);
-    meets(machine.checked().order(), window, corners.as_slice())
+    let order = machine.checked().order();
+    let corners = corners.as_slice();
+    match beside(order, window, corners) {
+        Standing::Beyond => false,
+        Standing::Within | Standing::Across => meets(order, window, corners),
+    }
 }
 
 /// Puts 1 for each tile that meets a window, and 0 for each other one.

@@ -43,7 +43,7 @@ pub extern "C" fn tiling_kinds(t: SharedMachine) -> u8
 /// Puts all the numbers of the rule.
 #[unsafe(no_mangle)]
 pub extern "C" fn tiling_rule(t: SharedMachine, out: &mut PlainRuleNumbers)
-    // Each number is the rule's, and all numbers behind its lists are 0.
+    // Each number is the rule's, and all numbers after its lists are 0.
     ensures { out.new ≡ rule_as (listed t.rule) }
 {
     out.write(t.get().checked());
