@@ -40,8 +40,8 @@ class Refusal(Exception):
 
 
 class BadWords(Refusal, ValueError):
-    """A value is malformed or out of range. Its field is the place of the first wrong word of the command, or a
-    sentence where the package itself refuses."""
+    """A value is malformed or out of range. Its field is the place of the first wrong word of the command, or
+    a sentence where the package itself refuses."""
 
     status = 2
 
