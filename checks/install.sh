@@ -80,6 +80,7 @@ try_program() {
 
 try_python() {
     [ -n "$python" ] || { say 'skipped in part: no python:numpy'; return; }
+    [ -f "$prefix/lib/libtiling.so.0" ] || { say 'skipped in part: no library'; return; }
     cd "$work" || return
     "$tiling" board p3 --tiles 60 > board.json && "$python" -c '
 import json, sys
@@ -124,7 +125,7 @@ try_shells() {
         is_offered 'ab' tiling place rule = a
         is_offered 'at=' tiling draw rule = p3 addr = 0: at
         is_offered 'csv' tiling board p3 --to c
-        is_offered '--joined' tiling poster p3 --j
+        is_offered '--joined' tiling poster p3 --joi
         [ -z "$python" ] || for command in board poster explore atlas; do
             "$tiling" $command --help | grep -o '^  --[a-z]*\|^  -h, --help' | sed 's/.*--/--/' | LC_ALL=C sort -u > "$work/real"
             offers tiling $command p3 - | tr ' ' '\n' | sed '/^$/d' > "$work/offered"

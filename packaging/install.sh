@@ -123,7 +123,7 @@ if [ -f "$built/libtiling.a" ]; then
     sed "s/@VERSION@/$version/" "$top/packaging/installed/tiling.pc" > "$work/pc"
     put 644 "$work/pc" lib/pkgconfig/tiling.pc
 else
-    say "there is no $built/libtiling.a, so no C library"
+    say "there is no $built/libtiling.a, so no C library, which the commands in Python need"
 fi
 if [ -f "$built/libtiling.so.0" ]; then
     put 644 "$built/libtiling.so.0" lib/libtiling.so.0

@@ -41,7 +41,7 @@ from .strokes import strokes
 from .symmetry import Place, symmetric_place
 from .tiling import Across, Pairing, Placed, StarTile, Tiling, WalkTile, Window, call, rule_file
 
-__version__ = "0.1.0"
+__version__ = "0.2.0"
 __all__ = [
     "__version__",
     "Across",

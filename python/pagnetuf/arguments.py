@@ -13,6 +13,8 @@ Point = Tuple[int, int, int, int]
 
 def integer(name: str, value: Any) -> int:
     """A whole number. TypeError for anything else, such as 0.5, 1.0 or "1"."""
+    if type(value) is int:
+        return value
     if not isinstance(value, (bool, np.bool_)):
         try:
             return operator.index(value)

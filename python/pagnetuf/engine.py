@@ -128,12 +128,9 @@ class Machine(ABC):
         """Exactly the tiles that meet a window, by shift, turn and kind, or with `glue` the halves of its
         whole tiles; with their addresses or without."""
 
+    @abstractmethod
     def meeting(self, tiles: np.ndarray, boxes: Sequence[Box]) -> np.ndarray:
         """Which tiles of an array meet one of some windows: bool (n,)."""
-        from .meeting import meeting
-        from .patch import Patch
-
-        return meeting(Patch(self.rule, tiles, None), *boxes)
 
     @abstractmethod
     def listing(self, frame: Frame, box: Box, glue: bool = False) -> bytes:

@@ -6,7 +6,6 @@ from typing import TYPE_CHECKING, Any, Dict, List, Optional, Union
 
 import numpy as np
 
-from .arguments import frozen
 from .engine import ADDRESS, TILE
 from .patch import Patch, WholePatch, whole_patch
 from .rule import Rule
@@ -43,7 +42,7 @@ def structure_factor(patch: Patch, waves: np.ndarray, radius: Optional[float] = 
     step = max(1, SOME // max(1, len(points)))
     for start in range(0, len(flat), step):
         sums[start : start + step] = np.exp(1j * (flat[start : start + step] @ points.T)) @ weights
-    return frozen((abs(sums) ** 2 / (weights**2).sum()).reshape(waves.shape[:-1]))
+    return (abs(sums) ** 2 / (weights**2).sum()).reshape(waves.shape[:-1])
 
 
 def tile_graph(patch: Patch) -> "networkx.Graph":

@@ -35,8 +35,7 @@ from .rule import Rule
 from .texts import address_texts, read_alike
 
 Answer = TypeVar("Answer")
-ABI = 1
-LATEST_ABI = 2
+ABI = 2
 FRAME = np.dtype([("seed", "<u8"), ("base", ADDRESS), ("rest", "u1", 6)])
 WINDOW = np.dtype([("at", "<i8", 4), ("w", "<u2"), ("h", "<u2"), ("rest", "u1", 4)])
 OK, BAD_ADDRESS, REFUSED = 0, 4, 255
@@ -48,10 +47,7 @@ CALLS = {
     "abi": (ctypes.c_uint32,),
     "open": (STATUS, ctypes.c_char_p, SIZE, POINTER),
     "open_file": (STATUS, ctypes.c_char_p, SIZE, POINTER, POINTER, SIZE, POINTER),
-    "order": (BYTE, POINTER),
-    "kinds": (BYTE, POINTER),
-    "prototile": (STATUS, POINTER, BYTE, POINTER),
-    "glue_edge": (STATUS, POINTER, BYTE, POINTER),
+    "rule": (None, POINTER, POINTER),
     "read_address": (STATUS, POINTER, ctypes.c_char_p, SIZE, POINTER),
     "write_address": (STATUS, POINTER, POINTER, SIZE, POINTER),
     "place": (STATUS, POINTER, POINTER, POINTER),
@@ -60,17 +56,14 @@ CALLS = {
     "neighbour_all": (STATUS, POINTER, POINTER, SIZE, POINTER, SIZE, POINTER, SIZE),
     "pair": (STATUS, POINTER, POINTER, POINTER, POINTER),
     "cover": (STATUS, POINTER, POINTER, POINTER, POINTER, SIZE, POINTER, SIZE, POINTER),
+    "meets_all": (STATUS, POINTER, POINTER, SIZE, POINTER, POINTER, SIZE),
     "glue": (STATUS, POINTER, POINTER, POINTER, POINTER, SIZE, POINTER),
     "walk": (STATUS, POINTER, POINTER, BYTE, POINTER, SIZE, POINTER, SIZE, POINTER, SIZE),
     "star": (STATUS, POINTER, POINTER, BYTE, POINTER),
     "verify": (STATUS, *(POINTER,) * 3, *(POINTER, SIZE) * 2, POINTER, POINTER),
     "call": (STATUS, *(ctypes.c_char_p, SIZE) * 2, *(POINTER, SIZE, POINTER) * 2),
 }
-# those that the interface 2 has more
-MORE_CALLS = {
-    "rule": (None, POINTER, POINTER),
-    "meets_all": (STATUS, POINTER, POINTER, SIZE, POINTER, POINTER, SIZE),
-}
+SINGLE_CALLS = ("read_address", "write_address", "place", "neighbour")
 CROSSING = np.dtype([("status", "u1"), ("back", "u1"), ("part", "u1")])
 RELATION = np.dtype([("relation", "u1"), ("backs", "u1", 12)])
 STAR = np.dtype([("tiles", TILE, 64), ("addresses", ADDRESS, 64), ("count", "u1"), ("rest", "u1", 7)])
@@ -90,10 +83,7 @@ class Library:
     abi: Callable[..., int]
     open: Callable[..., int]
     open_file: Callable[..., int]
-    order: Callable[..., int]
-    kinds: Callable[..., int]
-    prototile: Callable[..., int]
-    glue_edge: Callable[..., int]
+    rule: Callable[..., None]
     read_address: Callable[..., int]
     write_address: Callable[..., int]
     place: Callable[..., int]
@@ -107,20 +97,19 @@ class Library:
     star: Callable[..., int]
     verify: Callable[..., int]
     call: Callable[..., int]
-    rule: Optional[Callable[..., None]] = None
-    meets_all: Optional[Callable[..., int]] = None
+    meets_all: Callable[..., int]
 
     def __init__(self, path: str):
         self.path = path
         try:
             loaded = ctypes.CDLL(path)
             self._take(loaded, CALLS)
-            if not ABI <= self.abi() <= LATEST_ABI:
-                raise NoEngine(f"{path} has the interface {self.abi()}, and this package needs {LATEST_ABI}")
-            if self.abi() == LATEST_ABI:
-                self._take(loaded, MORE_CALLS)
+            # (a call on one tile takes less time than it takes to let other threads run meanwhile)
+            self._take(ctypes.PyDLL(path), {name: CALLS[name] for name in SINGLE_CALLS})
         except (OSError, AttributeError) as trouble:
             raise NoEngine(f"{path} can't be loaded: {trouble}") from trouble
+        if self.abi() != ABI:
+            raise NoEngine(f"{path} has the interface {self.abi()}, and this package needs {ABI}")
 
     def _take(self, loaded: ctypes.CDLL, calls: Dict[str, Tuple[Any, ...]]) -> None:
         """Takes these functions of a library."""
@@ -136,9 +125,9 @@ def library_at(path: str) -> Library:
     return Library(path)
 
 
-class Scratch(threading.local):
-    """What a thread hands to calls on single tiles, made once: an address, a tile, a text, two numbers, and
-    pointers to them."""
+class Scratch:
+    """What is handed to calls on single tiles: an address, a tile, a text, three numbers, and pointers to
+    them."""
 
     def __init__(self) -> None:
         self.address, self.tile = (ctypes.c_uint8 * ADDRESS.itemsize)(), (ctypes.c_uint8 * TILE.itemsize)()
@@ -149,7 +138,14 @@ class Scratch(threading.local):
         self.to_back, self.to_part = ctypes.addressof(self.back), ctypes.addressof(self.part)
 
 
-SCRATCH = Scratch()
+class OwnScratch(threading.local):
+    """That of each thread, made once."""
+
+    def __init__(self) -> None:
+        self.scratch = Scratch()
+
+
+OWN = OwnScratch()
 
 
 class LibraryEngine(Engine):
@@ -198,7 +194,7 @@ class LibraryMachine(Machine):
     def __init__(self, engine: LibraryEngine, name: str, file: Optional[bytes] = None):
         self.engine, self.name, self.file, self.library = engine, name, file, engine.library
         self.handle = self._opened()
-        self.asked = CommandMachine(engine, name, file, lambda: self.rule)
+        self.asked = CommandMachine(engine, name, file)
 
     def _opened(self) -> ctypes.c_void_p:
         handle, size = ctypes.c_void_p(), ctypes.c_size_t()
@@ -230,7 +226,7 @@ class LibraryMachine(Machine):
 
     def _read(self, text: str) -> Optional[Scratch]:
         """The address of a text in the scratch of this thread, or None where it is none of this rule."""
-        scratch, line = SCRATCH, text.encode("utf-8", "surrogateescape")
+        scratch, line = OWN.scratch, text.encode("utf-8", "surrogateescape")
         status = self.library.read_address(self.handle, line, len(line), scratch.to_address)
         return scratch if status == OK else None
 
@@ -249,7 +245,7 @@ class LibraryMachine(Machine):
         if library.neighbour(self.handle, to, edge, scratch.to_back, scratch.to_part) != OK:
             return self.asked.neighbour(address, edge)
         library.write_address(to, scratch.to_text, LONGEST_TEXT, scratch.to_size)
-        return scratch.text.raw[: scratch.size.value].decode(), scratch.back.value
+        return ctypes.string_at(scratch.to_text, scratch.size.value).decode(), scratch.back.value
 
     def place_all(self, addresses: Addresses) -> np.ndarray:
         read, wrong = self._read_all(addresses, True)
@@ -307,8 +303,6 @@ class LibraryMachine(Machine):
         return read, np.array(wrong, np.int64)
 
     def meeting(self, tiles: np.ndarray, boxes: Sequence[Box]) -> np.ndarray:
-        if self.library.meets_all is None:
-            return super().meeting(tiles, boxes)
         given, found = np.ascontiguousarray(tiles), np.zeros(len(tiles), bool)
         for box in boxes:
             window, flags = np.zeros((), WINDOW), np.zeros(len(tiles), np.uint8)

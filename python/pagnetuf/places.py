@@ -2,7 +2,6 @@
 wheel has them, in a checkout, or where packaging/install.sh puts them."""
 import os
 import re
-import shutil
 import sys
 from typing import List, Optional
 
@@ -25,7 +24,11 @@ def program() -> Optional[str]:
     built = os.path.join(CHECKOUT, ".tiling", "program")
     installed = os.path.join(PREFIX, "lib", "tiling", "program")
     found = [path for path in (built, installed) if os.access(path, os.X_OK)]
-    return found[0] if found else shutil.which("tiling")
+    if found:
+        return found[0]
+    import shutil  # (which most users of the package never need)
+
+    return shutil.which("tiling")
 
 
 def library() -> Optional[str]:

@@ -5,7 +5,6 @@ The program is that which the variable TILING_PROGRAM names, or .tiling/program 
 this package, or the installed one, or `tiling` on the PATH. A call takes one to two milliseconds beside its
 work; a window's text is parsed in bulk by numpy."""
 import os
-import subprocess
 from typing import Any, Callable, Dict, List, Optional, Sequence, Tuple, Union
 
 import numpy as np
@@ -39,6 +38,8 @@ class ProgramEngine(Engine):
 
     def call(self, words: Sequence[str], given: bytes = b"") -> bytes:
         """What the program prints for these words and this standard input. A refusal is raised."""
+        import subprocess  # (which most users of the package never need)
+
         try:
             ran = subprocess.run(
                 [self.path, *words], input=given, stdout=subprocess.PIPE, stderr=subprocess.PIPE, check=False
@@ -52,31 +53,34 @@ class ProgramEngine(Engine):
     def machine(self, name: str) -> "CommandMachine":
         if name not in BUILT_IN:
             raise BadWords(1)
-        return CommandMachine(self, name, None, lambda: rule_by_library(name, None))
+        return CommandMachine(self, name, None)
 
     def machine_of(self, data: bytes) -> "CommandMachine":
         self.call(["check", "rule=-"], data)
-        return CommandMachine(self, "-", data, lambda: rule_by_library("-", data))
+        return CommandMachine(self, "-", data)
 
 
-def rule_by_library(name: str, file: Optional[bytes]) -> Rule:
-    """The numbers of a rule, by the library. NoEngine without one."""
+def machine_by_library(name: str, file: Optional[bytes]) -> Machine:
+    """The same rule over the library. NoEngine without one."""
     from .library import LibraryEngine
 
     engine = LibraryEngine()
-    return (engine.machine(name) if file is None else engine.machine_of(file)).rule
+    return engine.machine(name) if file is None else engine.machine_of(file)
 
 
 class CommandMachine(Machine):
     """A rule that is named to an engine by the words of the command, or whose file stands for standard input.
     Its numbers are asked for when they are needed."""
 
-    def __init__(self, engine: Engine, name: str, file: Optional[bytes], rule: Callable[[], Rule]):
-        self.engine, self.name, self.file, self._rule = engine, name, file, rule
+    def __init__(self, engine: Engine, name: str, file: Optional[bytes]):
+        self.engine, self.name, self.file = engine, name, file
 
     @property
     def rule(self) -> Rule:
-        return self._rule()
+        return machine_by_library(self.name, self.file).rule
+
+    def meeting(self, tiles: np.ndarray, boxes: Sequence[Box]) -> np.ndarray:
+        return machine_by_library(self.name, self.file).meeting(tiles, boxes)
 
     def __reduce__(self) -> tuple:
         if self.file is not None:

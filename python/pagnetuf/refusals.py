@@ -32,7 +32,7 @@ class Refusal(Exception):
         """A field, or another text where the refusal has none."""
         return self.fields[spot] if spot < len(self.fields) else missing
 
-    def __str__(self):
+    def __str__(self) -> str:
         return f"{self.sentence} ({self.line})"
 
     def __reduce__(self):
@@ -40,15 +40,23 @@ class Refusal(Exception):
 
 
 class BadWords(Refusal, ValueError):
-    """A value is malformed or out of range."""
+    """A value is malformed or out of range. Its field is the place of the first wrong word of the command, or
+    a sentence where the package itself refuses."""
 
     status = 2
 
     @property
+    def has_sentence(self) -> bool:
+        return bool(self.fields) and not self.field(0).isdigit()
+
+    @property
     def sentence(self) -> str:
-        if self.fields and not self.field(0).isdigit():
+        if self.has_sentence:
             return self.field(0)
         return "a number is out of range: at: four up to 2^20, half: two from 1 to 4096, seed: below 2^64"
+
+    def __str__(self) -> str:
+        return self.sentence if self.has_sentence else super().__str__()
 
 
 class RuleTooLong(Refusal, ValueError):

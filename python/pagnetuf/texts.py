@@ -55,7 +55,7 @@ def parsed_listing(text: bytes, has_number: bool = False) -> Found:
 
 BYTE = rb"(?:\d{1,2}|1\d\d|2[0-4]\d|25[0-5])"
 HALF = rb"BYTE BYTE -?\d{1,9}(?:,-?\d{1,9}){3} BYTE:(?:BYTE/BYTE(?:,BYTE/BYTE){0,63})?".replace(b"BYTE", BYTE)
-LINE = re.compile(HALF + rb"(?: \+ " + HALF + rb")?")
+LINE = HALF + rb"(?: \+ " + HALF + rb")?"
 
 
 def parsed_lines(text: bytes) -> Found:
@@ -63,7 +63,7 @@ def parsed_lines(text: bytes) -> Found:
     for a line of another form."""
     lines = text.splitlines()
     for number, line in enumerate(lines, 1):
-        if not LINE.fullmatch(line):
+        if not re.fullmatch(LINE, line):
             raise ValueError(f"line {number} is no line `kind turn shift address` of a list: {line[:80]!r}")
     halves = [line.split(b" + ") for line in lines]
     rows = [half.split() for both in halves for half in both]

@@ -728,6 +728,8 @@ def _told(found: Found) -> Iterator[Tuple[Motion, str, int]]:
 
 def address_of(addr: Address) -> str:
     """An address as a text, also where one ADDRESS of an array is given."""
+    if type(addr) is str:
+        return addr
     if isinstance(addr, np.void) and addr.dtype == ADDRESS:
         return address_text(addr)
     return text_of("an address", addr)

@@ -10,6 +10,7 @@ from browser import browser
 from conftest import BUILT_IN, RULES, SVG, rule_files
 from pagnetuf.commands.atlas import page, shares, stars
 from pagnetuf.picture import Colours
+from pagnetuf.rule import Kind, Rule
 
 PHI = (1 + math.sqrt(5)) / 2
 
@@ -35,20 +36,31 @@ def test_shares_are_those_of_the_literature(tiling):
         assert min(abs(share[:2].sum() - it) for it in (first, 1 - first)) < 1e-9
 
 
-def test_shares_settle_where_the_matrix_permutes(tiling):
-    """Rudin-Shapiro's squares: the matrix has eigenvalues of one size, and yet the shares have one limit,
-    each kind's own share of the deep supertiles on average."""
-    rule = tiling("rudin_shapiro_squares.toml").rule
-    count, total = np.zeros(len(rule.kinds)), np.zeros(len(rule.kinds))
-    count[0] = 1
-    for depth in range(60):
-        count = sum(
-            size * np.bincount(kind.children[:, 0], minlength=len(count))
-            for size, kind in zip(count, rule.kinds)
-        )
-        count = count / count.sum()
-        total += count if depth >= 20 else 0
-    assert np.allclose(shares(rule), total / total.sum(), atol=1e-6)
+@pytest.mark.parametrize("name", [*BUILT_IN, *rule_files()])
+def test_shares_are_kept_by_the_matrix(tiling, name):
+    """Also where it permutes classes of kinds, so that its powers have no limit."""
+    rule = tiling(name).rule
+    share = shares(rule)
+    after = sum(
+        part * np.bincount(kind.children[:, 0], minlength=len(share)) for part, kind in zip(share, rule.kinds)
+    )
+    assert np.allclose(after / after.sum(), share, atol=1e-9) and (share > 0).all()
+
+
+def test_shares_where_the_matrix_has_a_period():
+    """Squares of three kinds: the first is cut into the others, and they into the first."""
+    square, places = [[0, 0, 0, 0], [1, 0, 0, 0], [1, 1, 0, 0], [0, 1, 0, 0]], [
+        (0, 0),
+        (1, 0),
+        (0, 1),
+        (1, 1),
+    ]
+    kinds = [
+        [[kind, 0, x, y, 0, 0] for kind, (x, y) in zip(row, places)]
+        for row in ((1, 1, 1, 2), [0] * 4, [0] * 4)
+    ]
+    rule = Rule(4, [2, 0, 0, 0], [Kind(square, children) for children in kinds], [0, 1, 2])
+    assert np.allclose(shares(rule), [1 / 2, 3 / 8, 1 / 8], atol=1e-9)
 
 
 def test_shares_of_stars_are_those_of_inner_vertices(tiling):

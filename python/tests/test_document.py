@@ -23,9 +23,9 @@ def test_it_is_short():
     assert len(text_of(NAME).split()) <= 2000
 
 
-def test_the_first_minute_of_embedding(library, monkeypatch):
+def test_the_examples_of_embedding(library, monkeypatch):
     monkeypatch.chdir(TOP)
-    assert tried(EMBEDDING) > 5
+    assert tried(EMBEDDING) == text_of(EMBEDDING).count("\n>>> ")
 
 
 def test_the_commands(library, tmp_path):

@@ -28,6 +28,7 @@ from pagnetuf import (
 )
 from pagnetuf.engine import ADDRESS, TILE, Box, Frame
 from pagnetuf.library import FRAME, WINDOW
+from pagnetuf.rule_numbers import NUMBERS
 from pagnetuf.texts import address_texts as theirs_texts
 
 ADDRESSES = (
@@ -77,6 +78,7 @@ def same(one, other):
 
 def test_the_layout_is_the_headers():
     assert (TILE.itemsize, ADDRESS.itemsize, FRAME.itemsize, WINDOW.itemsize) == (40, 130, 144, 40)
+    assert NUMBERS.itemsize == 17144
 
 
 def test_windows(both):
@@ -304,15 +306,20 @@ def test_more_questions_than_one_script_of_the_program_has(program, library):
     texts = ours.window(half=(60, 60)).address_texts()
     texts = (texts * (60_000 // len(texts) + 1))[:60_000]
     edges = np.arange(len(texts)) % 9
-    calls, ask = [], theirs.machine.engine.call
-    theirs.machine.engine.call = lambda *words: calls.append(words) or ask(*words)
     mine, yours = ours.neighbour_all(texts, edges), theirs.neighbour_all(texts[:300], edges[:300])
-    calls.clear()
     assert mine[0][:300] == yours[0] and (mine[1][:300] == yours[1]).all()
     inside = np.flatnonzero(mine[1][:, 1] == 0)
     some = [texts[i] for i in inside]
+    calls, ask = [], theirs.machine.engine.call
+
+    def few_calls(*words):
+        calls.append(words)
+        assert len(calls) < 9
+        return ask(*words)
+
+    theirs.machine.engine.call = few_calls
     there, numbers = theirs.neighbour_all(some, edges[inside])
-    assert there == [mine[0][i] for i in inside] and not numbers[:, 1].any() and 1 < len(calls) < 9
+    assert there == [mine[0][i] for i in inside] and not numbers[:, 1].any() and len(calls) > 1
 
 
 def test_lists_of_tiles_of_any_rule_in_any_order(library):

@@ -40,7 +40,6 @@ def test_a_refusal_is_the_exception_of_python_that_it_is(kind):
         (NoVertex(8, 8), "the tile has no vertex 8; it has 8, counted from 0 (15 NoVertex 8 8)"),
         (NoMemory(), "The engine ran out of memory (11 NoMemory)"),
         (BadWords(5), "a number is out of range"),
-        (BadWords("no such rule"), "no such rule"),
         (Outside(1, 0), "on edge 1 of the supertile"),
         (BadAddress("BadText", 3), "goes wrong after 3 characters"),
         (BadAddress(), "not one of a tile"),
@@ -55,6 +54,10 @@ def test_a_refusal_is_the_exception_of_python_that_it_is(kind):
 )
 def test_a_refusal_says_a_sentence(refusal, told):
     assert told in str(refusal) and str(refusal).endswith(f"({refusal.line})")
+
+
+def test_a_refusal_of_the_package_itself_is_its_sentence():
+    assert str(BadWords("no such rule")) == "no such rule"
 
 
 def test_each_fault_of_a_rule_file_has_a_sentence():

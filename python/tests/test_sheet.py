@@ -7,7 +7,6 @@ import numpy as np
 import pytest
 from conftest import BUILT_IN, rule_files
 from pagnetuf.engine import Box
-from pagnetuf.meeting import meeting
 from pagnetuf.sheet import RIGHT, UP, beyond, gathered, middles, split
 
 
@@ -45,7 +44,7 @@ def test_the_exact_test_agrees_with_the_program(tiling, name):
     t = tiling(name)
     wide = t.window(half=(16, 14))
     for at, half in (((1, 0, 0, 0), (3, 2)), ((0, 0, 0, 0), (1, 1)), ((-2, 1, 0, 0), (4, 5))):
-        assert lines(wide.chosen(meeting(wide, Box(at, half)))) == lines(t.window(at, half))
+        assert lines(wide.chosen(t.machine.meeting(wide.tiles, [Box(at, half)]))) == lines(t.window(at, half))
 
 
 def test_executors(tiling):
@@ -126,7 +125,7 @@ def test_only_tiles_at_the_rim_meet_another_window(tiling, name):
         rim = beyond(t.rule, window.shifts, box)
         inside = np.setdiff1d(np.arange(len(window)), rim)
         assert len(inside) and len(rim)
-        assert not meeting(window.chosen(inside), *beside).any()
+        assert not t.machine.meeting(window.chosen(inside).tiles, beside).any()
     for small in ((1, 1), (1, 40), (7, 2)):
         assert len(t.window((5, -3, 0, 0), small, 1)) <= t.rule.most_tiles(small)
 
@@ -174,7 +173,7 @@ def test_what_is_inside_reaches_nowhere_out(tiling):
         inside = np.setdiff1d(np.arange(len(shifts)), beyond(t.rule, shifts, box))
         assert not out[inside].any() and 100 < len(inside)
         near = out & (away < (np.array(box.half) - t.rule.reach)[:, None] + 0.01).all(0)
-        assert near.any() or width == 2
+        assert near.any() or name != "p3"
 
 
 def test_far_out_in_a_pool(tiling):

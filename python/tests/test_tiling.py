@@ -275,11 +275,10 @@ def test_refusals_by_name_and_number(tiling, program):
         with pytest.raises(error) as caught:
             ask()
         assert caught.value.status == status and (caught.value.fields == fields or error is BadWords)
-    with pytest.raises(BadWords, match="not a built-in tiling .*p3.*from_file"):
+    with pytest.raises(BadWords, match="'penrose' is no tiling: use chair.*from_file") as caught:
         Tiling("penrose")
-    with pytest.raises(BadWords, match="sphinx is a rule file.*from_file.*rules/sphinx.toml") as caught:
-        Tiling("sphinx")
     assert caught.value.status == 2
+    assert Tiling("sphinx").rule.order == 6 and Tiling("sphinx") == tiling("sphinx.toml")
     with pytest.raises(RuleRefused) as caught:
         Tiling.from_bytes(b"")
     assert caught.value.line == "3 RuleRefused Missing format"

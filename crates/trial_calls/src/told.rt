@@ -5,6 +5,8 @@ use std::alloc::{AllocError, Global};
 use tile_app::run::run;
 use tile_io::mem_sink::MemSink;
 use tile_io::mem_source::MemSource;
+use tile_io::sink::Sink;
+use tile_io::source::Source;
 use tile_shape::no_memory::NoMemory;
 
 /// Which calls fail: the read of this number, counted from 1, and all writes and notes after these numbers.
@@ -41,16 +43,16 @@ fn one_list(alloc: Global) -> Result<Vec<Box<dyn Layer>>, NoMemory> {
     Ok(layers)
 }
 
-/// Runs words over streams, with a layer that lists tiles. Returns the exit code.
-fn ended(
+/// Runs words over streams, with these layers. Returns the exit code.
+pub fn ended<R: Source, W: Sink, N: Sink>(
     alloc: Global,
     words: &Vec<String>,
-    source: &mut MemSource,
-    sink: &mut MemSink,
-    notes: &mut MemSink,
-) -> Result<u8, NoMemory> {
-    let layers = one_list(alloc)?;
-    Ok(run(alloc, words, source, sink, notes, layers).code())
+    source: &mut R,
+    sink: &mut W,
+    notes: &mut N,
+    layers: Vec<Box<dyn Layer>>,
+) -> u8 {
+    run(alloc, words, source, sink, notes, layers).code()
 }
 
 /// An exit code, what was printed, and after a bar what was noted.
@@ -69,7 +71,7 @@ fn told_into(
     room: usize,
 ) -> Result<String, NoMemory> {
     let mut notes = MemSink::new(alloc, room, 1, Vec::new(alloc))?;
-    let code = ended(alloc, words, source, sink, &mut notes)?;
+    let code = ended(alloc, words, source, sink, &mut notes, one_list(alloc)?);
     Ok(text_of(alloc, code, sink, &notes)?)
 }
 

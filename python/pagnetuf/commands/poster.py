@@ -50,6 +50,7 @@ CLIP = 'clip-path="url(#page)"'
 EPSILON = 1e-9  # mm
 BY = ("kind", "turn", "star", "neighbours", "ring")
 RINGS = 5
+Spot = Tuple[float, float]  # mm
 
 
 def millimetres(count: int, least: float, most: float) -> Callable[[str], List[float]]:
@@ -405,30 +406,30 @@ def cut_page(patch: Patch, page: Page, options: argparse.Namespace) -> Iterator[
     edges, ends = clipped_edges(patch, page)
     trails = strokes(edges)
     tell(f"{len(edges)} edges in {len(trails)} strokes, each edge exactly once")
-    drawn = ([ends[v] for v in trail] for trail in trails)
+    drawn = ([(x, y) for x, y in ends[trail].tolist()] for trail in trails)
     yield from (dxf if options.to == "dxf" else cut_svg)(drawn, page)
 
 
-def clipped_edges(patch: Patch, page: Page) -> Tuple[List[Tuple[int, int]], List[Tuple[float, float]]]:
-    """Each edge exactly once, clipped to the page: pairs of numbers of ends, and the ends in mm."""
+def clipped_edges(patch: Patch, page: Page) -> Tuple[np.ndarray, np.ndarray]:
+    """Each edge exactly once, clipped to the page: pairs of numbers of ends, (E, 2), and the ends in mm, (n, 2)."""
     spots = page.places(patch, patch.vertices())
-    ends: List[Tuple[float, float]] = [(x, y) for x, y in spots.tolist()]
-    edges = []
-    for a, b in shown(patch.edges(), spots, page).tolist():
-        part = clipped(ends[a], ends[b], page.wide, page.high)
+    edges, size = shown(patch.edges(), spots, page), (page.wide, page.high)
+    is_inside = ((spots > EPSILON) & (spots < np.array(size) - EPSILON)).all(1)[edges].all(1)
+    pairs: List[List[int]] = []
+    more: List[Spot] = []
+    for a, b in edges[~is_inside].tolist():
+        old = [(x, y) for x, y in spots[[a, b]].tolist()]
+        part = clipped(old[0], old[1], *size)
         if part is None:
             continue
-        pair = []
-        for vertex, end, old in ((a, part[0], ends[a]), (b, part[1], ends[b])):
-            if end != old:
-                vertex = len(ends)
-                ends.append(end)
-            pair.append(vertex)
-        edges.append((pair[0], pair[1]))
-    return edges, ends
-
-
-Spot = Tuple[float, float]
+        pair = [a, b]
+        for i in (0, 1):
+            if part[i] != old[i]:
+                pair[i] = len(spots) + len(more)
+                more.append(part[i])
+        pairs.append(pair)
+    every = np.concatenate([edges[is_inside], np.array(pairs, edges.dtype).reshape(-1, 2)])
+    return every, np.concatenate([spots, np.array(more, float).reshape(-1, 2)])
 
 
 def clipped(a: Spot, b: Spot, wide: float, high: float) -> Optional[Tuple[Spot, Spot]]:

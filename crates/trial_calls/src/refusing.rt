@@ -1,5 +1,5 @@
 //! Layers that refuse one of their calls, and layers counted as they are dropped.
-use crate::calls::{Layers, comes_to};
+use crate::drawings::{Layers, comes_to};
 use crate::wrong::Wrong;
 use layer_list::census_layer::CensusLayer;
 use layer_list::list_layer::ListLayer;

@@ -1,5 +1,5 @@
 //! The words of a window, and the texts of the tiles that are listed for it.
-use crate::calls::{ALL, comes_to, layers_of};
+use crate::drawings::{ALL, comes_to, layers_of};
 use plane_geom::window::Window;
 use std::alloc::{AllocError, Global};
 use tile_place::machine::Machine;
@@ -89,7 +89,7 @@ pub fn outcome_of(
     let tiles = listed(alloc, machine, &frame, window)?;
     let wanted = text_of(alloc, machine, tiles.as_slice())?;
     let line = words(alloc, rule, seed, base, window)?;
-    let layers = layers_of(alloc, &ALL)?;
+    let layers = layers_of(alloc, ALL)?;
     let is_alike = comes_to(alloc, line.as_str(), layers, wanted.as_str());
     Ok(if is_alike {
         Outcome::Alike(tiles.len())

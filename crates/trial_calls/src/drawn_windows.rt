@@ -2,7 +2,7 @@
 //! midpoints of edges as centres: their sides run through vertices, along edges, and through corners of tiles
 //! that they only touch.
 use crate::listed::{Outcome, outcome_of};
-use crate::wrong::Wrong;
+use crate::wrong::{NONE, Wrong};
 use builtin_rules::name::Name;
 use plane_geom::window::Window;
 use std::alloc::Global;
@@ -69,7 +69,7 @@ fn drawn(alloc: Global, rule: &str, machine: &Machine) -> Counts {
 
 /// The first rule of which not each of 50 windows is alike, or which have few tiles.
 fn first_drawn(alloc: Global) -> Wrong {
-    let mut wrong = Wrong::default();
+    let mut wrong = NONE;
     for (name, rule) in &RULES {
         let counts = match machine_of(alloc, *name) {
             Ok(machine) => drawn(alloc, rule, &machine),
@@ -122,7 +122,7 @@ fn touching_drawn(alloc: Global, rule: &str, name: Name) -> Result<Counts, NoMem
 
 /// The first rule of which a window that touches what it doesn't meet is unlike, or which has few.
 fn first_touching(alloc: Global) -> Wrong {
-    let mut wrong = Wrong::default();
+    let mut wrong = NONE;
     for (name, rule) in &RULES {
         let counts = touching_drawn(alloc, rule, *name).unwrap_or(Counts::default());
         let is_right = counts.windows >= 10 && counts.unlike == 0;

@@ -1,6 +1,6 @@
 //! `drill`: its windows against those that `draw` counts, each made here of the generator's words.
-use crate::calls::text_of;
-use crate::wrong::Wrong;
+use crate::drawings::text_of;
+use crate::wrong::{NONE, Wrong};
 use rand_core::utils::NextWord;
 use rand_pcg::Pcg32;
 use std::alloc::{AllocError, Global};
@@ -101,7 +101,7 @@ fn is_alike(alloc: Global, rule: &str) -> Result<bool, NoMemory> {
 
 /// The first rule whose windows are summed up otherwise.
 fn first_wrong(alloc: Global) -> Wrong {
-    let mut wrong = Wrong::default();
+    let mut wrong = NONE;
     for rule in &RULES {
         wrong.note(rule, 10, is_summed(alloc, rule).unwrap_or(false));
     }
@@ -116,7 +116,7 @@ fn few_windows(rt: HostRuntime) {
 
 /// The first rule of which two hundred windows are summed up otherwise the second time.
 fn first_unlike(alloc: Global) -> Wrong {
-    let mut wrong = Wrong::default();
+    let mut wrong = NONE;
     for rule in &RULES {
         wrong.note(rule, 200, is_alike(alloc, rule).unwrap_or(false));
     }

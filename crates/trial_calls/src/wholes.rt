@@ -1,5 +1,5 @@
 //! Whole tiles drawn: their outlines as the literature has them, and what a list and a census of them say.
-use crate::calls::text_of;
+use crate::drawings::text_of;
 use crate::wrong::Wrong;
 use std::alloc::Global;
 use tile_shape::no_memory::NoMemory;
