@@ -14,6 +14,7 @@ esac
 [ $# -eq 1 ] || { usage >&2; exit 2; }
 set -e
 top=$(cd "$(dirname "$0")/.." && pwd)
+mkdir -p "$1"
 folder=$(cd "$1" && pwd)
 command -v dpkg-deb > /dev/null || { echo 'make_deb: there is no dpkg-deb' >&2; exit 1; }
 umask 022

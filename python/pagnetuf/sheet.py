@@ -22,30 +22,15 @@ what `each` makes of the piece there:
 
     sum(Tiling("p3").sheet((20000, 15000), executor=executor, each=len))"""
 import math
-from collections import deque
-from contextlib import contextmanager
-from functools import partial
-from typing import (
-    TYPE_CHECKING,
-    Any,
-    Callable,
-    Deque,
-    Generator,
-    Iterator,
-    List,
-    NamedTuple,
-    Optional,
-    Sequence,
-    Tuple,
-)
+from typing import TYPE_CHECKING, Any, Callable, Iterator, List, Optional, Sequence, Tuple
 
 import numpy as np
 
 from .arguments import Point
-from .engine import ADDRESS, MOST_TILES, TILE, Box, Found, Frame, Machine, raw, taken
-from .patch import Patch, WholePatch, named, whole_patch
-from .progress import progress_of
-from .refusals import Refusal
+from .engine import MOST_TILES, Box, Frame, raw
+from .patch import Patch, WholePatch
+from .piece import Task
+from .pieces import Pieces
 from .rule import Rule
 
 if TYPE_CHECKING:
@@ -53,23 +38,10 @@ if TYPE_CHECKING:
 
 # up to how many tiles a window has, in a region with up to MANY_TILES, and in a larger one
 USUAL_TILES, LARGER_TILES, MANY_TILES = 50_000, 100_000, 20_000_000
-NEAR = 0.01
 FARTHEST = 1 << 20  # of a coefficient of a window's centre
 # what added to a point adds 2 to X and leaves Y, and what adds 2 to Y and leaves X
 RIGHT = (1, 0, 0, 0)
 UP = {4: (0, 2, 0, 0), 6: (-1, 2, 0, 0), 8: (0, 1, 0, 1), 10: (-1, 2, -1, 1)}
-
-
-class Task(NamedTuple):
-    """A window of a sheet: what is computed of it, with the earlier windows beside it."""
-
-    machine: Machine
-    frame: Frame
-    box: Box
-    earlier: Sequence[Box]
-    whole: bool
-    addresses: bool
-    of: str = "tiles"
 
 
 class Sheet:
@@ -90,7 +62,8 @@ class Sheet:
         of: str = "tiles",
     ):
         self.machine, self.frame, self.at = tiling.machine, frame, np.array(at, np.int64)
-        self.whole, self.addresses, self.part, self.of = whole, addresses and of == "tiles", part, of
+        self.whole, self.addresses, self.part = whole, addresses and of == "tiles", part
+        self.of: str = of
         if not 0 <= part[0] < part[1]:
             raise ValueError(f"part is (i, n) with 0 <= i < n, and not {part!r}")
         widest = tile_extent(tiling.rule)
@@ -146,217 +119,6 @@ class Sheet:
     ) -> "Pieces":
         """The patches, in order, or what `each` makes of them: see `Tiling.sheet`."""
         return Pieces(self, executor, ahead, each, start, progress)
-
-
-class Pieces:
-    """The pieces of a sheet, in order, as an iterator with a length. `done` is how many have come; `close`,
-    or leaving a loop, cancels what waits."""
-
-    def __init__(
-        self,
-        sheet: Sheet,
-        executor: Any = None,
-        ahead: int = 16,
-        each: Optional[Callable[[Any], Any]] = None,
-        start: int = 0,
-        progress: bool = False,
-    ):
-        if not 0 <= start <= len(sheet):
-            raise ValueError(
-                f"start is from 0 to {len(sheet)}, which is how many pieces there are, and not {start}"
-            )
-        self.sheet, self.done, self.start = sheet, 0, start
-        self._found = self._made(executor, max(1, ahead), each)
-        self._shown = progress_of(len(sheet) - start, "windows") if progress else None
-
-    def __len__(self) -> int:
-        return len(self.sheet) - self.start
-
-    def __iter__(self) -> "Pieces":
-        return self
-
-    def __next__(self) -> Any:
-        try:
-            piece = next(self._found)
-        except StopIteration:
-            if self._shown:
-                self._shown.end()
-            raise
-        self.done += 1
-        if self._shown:
-            self._shown.step()
-        return piece
-
-    def close(self) -> None:
-        """Ends the work: what waits is cancelled, and what is under way is left to itself."""
-        self._found.close()
-        if self._shown:
-            self._shown.end()
-
-    def __del__(self) -> None:
-        if hasattr(self, "_found"):
-            self._found.close()
-
-    def _made(
-        self, executor: Any, ahead: int, each: Optional[Callable[[Any], Any]]
-    ) -> Generator[Any, None, None]:
-        tasks = enumerate(self.sheet.tasks())
-        numbered = ((number, task) for number, task in tasks if number >= self.start)
-        if executor is None:
-            for number, task in numbered:
-                with named_fault(number, task.box):
-                    piece = piece_of(task)
-                    piece = piece if each is None else each(piece)
-                yield piece
-            return
-        call = packed if each is None and self.sheet.of == "tiles" else partial(made, each)
-        waiting: Deque[Tuple[int, Task, Any]] = deque()
-        try:
-            for number, task in numbered:
-                waiting.append((number, task, executor.submit(call, task)))
-                if len(waiting) >= ahead:
-                    yield self._taken(*waiting.popleft())
-            while waiting:
-                yield self._taken(*waiting.popleft())
-        finally:
-            for _, _, future in waiting:
-                future.cancel()
-
-    def _taken(self, number: int, task: Task, future: Any) -> Any:
-        with named_fault(number, task.box):
-            found = future.result()
-        return patch_of(task.machine, found.unpacked()) if isinstance(found, Packed) else found
-
-
-@contextmanager
-def named_fault(number: int, box: Box) -> Iterator[None]:
-    """Says of a fault in which piece it was, and how to go on."""
-    try:
-        yield
-    except Exception as fault:
-        told = f"in piece {number}, the window at={box.at} half={box.half}; start={number} goes on from there"
-        if hasattr(fault, "add_note"):
-            fault.add_note(told)
-        elif not isinstance(fault, Refusal):  # before Python 3.11
-            fault.args = (*fault.args, told)
-        raise
-
-
-class Packed(NamedTuple):
-    """Tiles of a window on their way between two processes: all that differs among them.
-
-    motions    uint8 (n, 2)        the kind and the turn of each
-    shifts     int32 (n, 4)        (no coefficient is above 2^24)
-    addresses  uint8 (n, 2 + 2 d)  the bytes of the addresses up to the greatest depth; or None
-    whole      int64 (n,)          or None
-    """
-
-    motions: np.ndarray
-    shifts: np.ndarray
-    addresses: Optional[np.ndarray]
-    whole: Optional[np.ndarray]
-
-    @classmethod
-    def of(cls, found: Found) -> "Packed":
-        tiles, named_by = found.tiles, None
-        if found.addresses is not None:
-            used = 2 + 2 * int(found.addresses["depth"].max(initial=0))
-            named_by = found.addresses.view(np.uint8).reshape(len(tiles), -1)[:, :used].copy()
-        motions = np.stack([tiles["kind"], tiles["turn"]], 1)
-        return cls(motions, tiles["shift"].astype(np.int32), named_by, found.whole)
-
-    def unpacked(self) -> Found:
-        tiles, addresses = np.zeros(len(self.motions), TILE), None
-        tiles["kind"], tiles["turn"], tiles["shift"] = *self.motions.T, self.shifts
-        if self.addresses is not None:
-            addresses = np.zeros(len(tiles), ADDRESS)
-            whole_bytes = addresses.view(np.uint8).reshape(len(tiles), -1)
-            whole_bytes[:, : self.addresses.shape[1]] = self.addresses
-        return Found(tiles, addresses, self.whole)
-
-
-def packed(task: Task) -> Packed:
-    """The tiles that a window of a sheet owns, for another process."""
-    return Packed.of(owned(task))
-
-
-def made(each: Optional[Callable[[Any], Any]], task: Task) -> Any:
-    """What a function makes of a piece; without one, the piece."""
-    piece = piece_of(task)
-    return piece if each is None else each(piece)
-
-
-def piece_of(task: Task) -> Any:
-    """The patch of a window, or its vertices or edges."""
-    if task.of == "tiles":
-        return patch_of(task.machine, owned(task))
-    found = task.machine.cover(task.frame, task.box, task.whole, False)
-    patch = patch_of(task.machine, found if task.whole else found._replace(whole=None))
-    points = patch.vertices()
-    if task.of == "vertices":
-        return points[lying_in(patch.rule, points, task.box)]
-    ends = points[patch.edges()]
-    (a, b, c, d), (wide, high) = task.box
-    doubled = Box((2 * a, 2 * b, 2 * c, 2 * d), (2 * wide, 2 * high))
-    return ends[lying_in(patch.rule, ends.sum(1), doubled)]
-
-
-def lying_in(rule: Rule, points: np.ndarray, box: Box) -> np.ndarray:
-    """Which points (n, 4) lie in a window with its left and its lower side, exactly: bool (n,)."""
-    inside = np.ones(len(points), bool)
-    for along, half in zip(rule.ring.scaled(points - np.array(box.at)), box.half):
-        from_left, from_right = along.copy(), along.copy()
-        from_left[:, 0] += half
-        from_right[:, 0] -= half
-        inside &= (rule.ring.signs(from_left) >= 0) & (rule.ring.signs(from_right) < 0)
-    return inside
-
-
-def owned(task: Task) -> Found:
-    """The tiles of a window that meet none of the earlier ones, which have no inner point in common with it.
-    With `whole`, the halves of whole tiles; without, `Found.whole` is None."""
-    found = task.machine.cover(task.frame, task.box, task.whole, task.addresses)
-    old = old_tiles(task.machine, found.tiles, task.box, task.earlier)
-    if not task.whole:
-        kept = np.delete(np.arange(len(found.tiles)), old)
-        return Found(taken(found.tiles, kept), named(found.addresses, kept), None)
-    assert found.whole is not None
-    is_kept = np.ones(int(found.whole[-1]) + 1 if len(found.whole) else 0, bool)
-    is_kept[found.whole[old]] = False
-    kept = np.flatnonzero(is_kept[found.whole])
-    numbers = (np.cumsum(is_kept) - 1)[found.whole[kept]]
-    return Found(taken(found.tiles, kept), named(found.addresses, kept), numbers)
-
-
-def old_tiles(machine: Machine, tiles: np.ndarray, box: Box, earlier: Sequence[Box]) -> np.ndarray:
-    """The numbers of the tiles of a window that meet an earlier one: int64 (k,), ascending."""
-    if not earlier:
-        return np.zeros(0, np.int64)
-    rim = beyond(machine.rule, tiles["shift"], box)
-    return rim[machine.meeting(taken(tiles, rim), earlier)]
-
-
-def beyond(rule: Rule, shifts: np.ndarray, box: Box) -> np.ndarray:
-    """The numbers of the tiles that may reach out of a window, by their shifts (n, 4): int64 (k,), ascending.
-    All others lie inside, and so meet no window beside it."""
-    is_beyond = np.zeros(len(shifts), bool)
-    middles_of = rule.ring.steps @ box.at
-    for along, middle, half, reach in zip(places(rule, shifts), middles_of, box.half, rule.reach):
-        is_beyond |= abs(along - middle) > half - reach - NEAR
-    return np.flatnonzero(is_beyond)
-
-
-def places(rule: Rule, points: np.ndarray) -> List[np.ndarray]:
-    """X and Y of points (n, 4) as floats, which are right to far less than NEAR."""
-    columns = np.ascontiguousarray(points.T, np.float64)
-    return [sum(step * column for step, column in zip(row, columns) if step) for row in rule.ring.steps]
-
-
-def patch_of(machine: Machine, found: Found) -> Patch:
-    """The tiles, or the whole tiles of halves if they are numbered."""
-    if found.whole is None:
-        return Patch(machine.rule, found.tiles, found.addresses)
-    return whole_patch(machine.rule, found.tiles, found.addresses, found.whole)
 
 
 def gathered(pieces: Sequence[Patch]) -> Patch:

@@ -22,7 +22,8 @@ from .patch import Patch, WholePatch, whole_patch
 from .program import NO_EDGE
 from .refusals import BadWords
 from .rule import Rule
-from .sheet import Pieces, Sheet
+from .pieces import Pieces
+from .sheet import Sheet
 from .texts import address_text, listing_text
 
 Address = Union[str, np.void]  # a text, or one entry of an ADDRESS array

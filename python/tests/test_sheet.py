@@ -7,7 +7,8 @@ import numpy as np
 import pytest
 from conftest import BUILT_IN, rule_files
 from pagnetuf.engine import Box
-from pagnetuf.sheet import RIGHT, UP, beyond, gathered, middles, split
+from pagnetuf.piece import beyond
+from pagnetuf.sheet import RIGHT, UP, gathered, middles, split
 
 
 def lines(patch):
