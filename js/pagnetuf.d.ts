@@ -267,7 +267,7 @@ export interface Board {
   order: number;
   tiles: { id: number; kind: number; turn: number; address?: string; corners: number[]; neighbours: (number | null)[] }[];
   vertices: { id: number; x: number; y: number; exact: Point; star: number | null }[];
-  stars: { id: number; corners: [kind: number, corner: number][] }[];
+  stars: { id: number; tiles: [kind: number, corner: number][] }[];
 }
 
 export interface SvgOptions {

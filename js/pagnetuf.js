@@ -1666,7 +1666,7 @@ function boardOf(patch) {
       exact: Array.from(vertices.subarray(4 * id, 4 * id + 4)),
       star: orNull(label),
     })),
-    stars: patch.stars().map((star, id) => ({ id, corners: star.corners })),
+    stars: patch.stars().map((star, id) => ({ id, tiles: star.corners })),
   };
 }
 

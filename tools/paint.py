@@ -5,7 +5,8 @@
 
     --colour kind|turn|child|plain   by the tile's kind, by its turn, by its number as a child, or all the same
     --level N                        with `child`: the number of the digit, counted from 0, the finest; 0 by default
-    --palette NAME                   the colours: day, earth, sea, rose, stone or turns; or your own, as '#0b3954,#ff6663'
+    --palette NAME                   the colours: day, earth, sea, rose, stone or turns; or your own, as '#0b3954,#ff6663',
+                                     which by kind go to the kinds that are there, in order
     --width N                        pixels; 800 by default
     --title TEXT                     what the picture shows
 
@@ -95,13 +96,16 @@ def class_of(tile, options):
 
 def fills(classes, options, palette):
     """The rules of the style sheet: a colour for each class that is there."""
-    turns = max((int(name[1:]) for name in classes), default=0) + 1
+    numbers = sorted(int(name[1:]) for name in classes)
+    turns = max(numbers, default=0) + 1
     for name in sorted(classes):
         place = int(name[1:])
         if options["colour"] == "plain":
             place = 0
         elif options["colour"] == "turn":
             place = place * len(palette) // turns
+        elif options["colour"] == "kind" and options["palette"] not in (None, *PALETTES):
+            place = numbers.index(place)
         colour = palette[place % len(palette)]
         yield f".{name}{{fill:{colour};stroke:{colour}}}"
 
