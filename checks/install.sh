@@ -150,7 +150,8 @@ try_launcher() {
     tiling=$work/launcher
     try_help
     try_program
-    [ -z "$python" ] || "$tiling" board p3 --tiles 5 > /dev/null || failed 'launcher.sh board'
+    [ -z "$python" ] || [ ! -f "$prefix/lib/libtiling.so.0" ] || "$tiling" board p3 --tiles 5 > /dev/null \
+        || failed 'launcher.sh board'
     tiling=$prefix/bin/tiling
 }
 
