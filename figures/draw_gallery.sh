@@ -51,7 +51,7 @@ whole ammann_beenker ab 'seed=8 addr=0: at=400000,0,90000,0 half=18,8' --palette
 picture chair chair 'seed=42 addr=0: at=700000,-300000,0,0 half=34,10' --colour turn
 picture half_hex halfhex 'seed=7 addr=0: at=500000,100000,0,0 half=23,8' --colour turn
 whole penrose_p1 - 'seed=1 addr=0: at=700000,-300000,0,0 half=22,11' \
-    --palette '#1f5f7a,#3a9a9c,#8ecae6,#8ecae6,#8ecae6,#f4b860,#f4b860,#f4b860,#f4b860'
+    --palette '#1f5f7a,#3a9a9c,#8ecae6,#8ecae6,#f4b860,#f4b860,#f4b860,#f4b860'
 picture square_four - 'seed=1 addr=0: at=700000,-300000,0,0 half=20,6' --colour child --level 1 --palette stone
 picture square_nine - 'seed=1 addr=0: at=700000,-300000,0,0 half=20,6' --colour child --palette turns
 picture period_doubling_squares - 'seed=1 addr=0: at=700000,-300000,0,0 half=32,10' --palette earth
