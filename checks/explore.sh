@@ -9,4 +9,4 @@
 need program
 is_there chromium || is_there firefox-esr || skip browser
 "$python" "$top/packaging/make_page.py" --check || exit 1
-exec "$python" "$top/checks/explore.py" "$top" "$program" "$@"
+exec "$python" "$top/tests/page/explore.py" "$top" "$program" "$@"

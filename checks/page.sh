@@ -4,4 +4,4 @@
 # moves. Ends with 1 if it does not. It needs chromium, chromedriver and Python's selenium, and is skipped without them.
 . "$(dirname "$0")/needs"
 need chromium chromedriver python:selenium.webdriver
-exec "$python" "$top/checks/page.py" "$top"
+exec "$python" "$top/tests/page/page.py" "$top"

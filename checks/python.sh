@@ -1,5 +1,5 @@
 #!/bin/sh
-# Runs the tests of the Python package, python/tests: its answers against the program's bytes and the literature, its
+# Runs the tests of the Python package, tests/python: its answers against the program's bytes and the literature, its
 # commands, its wheel in a fresh environment, and its page in a browser; then pyflakes and mypy. Ends with 1 if one
 # fails. It needs numpy, pytest and the C library: the one that TILING_LIBRARY names, or .tiling/libtiling.so.0, or
 # what gcc links of .tiling/libtiling.a or crates/tiling_c/out/libtiling_c.a. A test that needs more, such as scipy or
@@ -25,7 +25,7 @@ find_library || skip library
 export TILING_LIBRARY PYTHONDONTWRITEBYTECODE=1
 status=0
 tested=$python
-TILING_PROGRAM=$program "$tested" -m pytest -q -rs -p no:cacheprovider python/tests || status=1
+TILING_PROGRAM=$program "$tested" -m pytest -q -rs -p no:cacheprovider tests/python || status=1
 for module in scipy networkx pandas matplotlib shapely ezdxf jsonschema hypothesis h5py selenium pyflakes mypy; do
     "$tested" -c "import $module" 2> /dev/null || echo "$script: skipped in part: $module"
 done

@@ -14,12 +14,12 @@ import xml.etree.ElementTree as ElementTree
 
 sys.dont_write_bytecode = True
 TOP, PROGRAM = os.path.abspath(sys.argv[1]), os.path.abspath(sys.argv[2])
-sys.path[:0] = [os.path.join(TOP, "tools"), os.path.join(TOP, "checks")]
+sys.path[:0] = [os.path.join(TOP, "tools")]
 import rule_file  # noqa: E402
 from browsers import Chromium, Firefox, Trouble  # noqa: E402
 
 PAGE = "file://" + os.path.join(TOP, "docs", "explore.html")
-with open(os.path.join(TOP, "checks", "explore.js"), encoding="utf-8") as helpers:
+with open(os.path.join(TOP, "tests", "page", "explore.js"), encoding="utf-8") as helpers:
     HELPERS = helpers.read()
 BUILT_IN = {
     "penrose_p3": "p3",
