@@ -33,8 +33,6 @@ use tile_place::placed_tile::PlacedTile;
 ///
 /// # Errors
 ///
-/// The tiles are taken in the given order.
-///
 /// - `DepthLimit`: the glue edge of a given tile is on the boundary at depth 64.
 /// - `CoordLimit`: the tile across the glue edge of a given tile has a shift with a coefficient above 2^24 in
 ///   absolute value.

@@ -1,5 +1,5 @@
 -- The headline, of what the two commands that carry it print.
-use Rattle.std.proofs.Common.{◌≡◌, ℕ, Bool, List, map, Result, Ok, sym, ap, subst, ◌∙◌}
+use Rattle.std.proofs.Common.{◌≡◌, ℕ, true, false, List, map, Result, Ok, sym, ap, subst, ◌∙◌}
 use Rattle.std.specs.declared.option.Option.{Option}
 use Rattle.theory_addresses.specs.Address.{Address}
 use Rattle.call_words.specs.declared.rule_choice.RuleChoice.{RuleChoice}
@@ -14,8 +14,8 @@ use Rattle.tile_app.specs.Answer.{IsPrinted, Prints}
 use Rattle.tile_app.specs.Asked.{OfCall}
 use Rattle.tile_app.specs.BaseFrame.{frame_of}
 use Rattle.tile_app.specs.Call.{Names}
-use Rattle.tile_app.specs.Draw.{PrintsDraw}
-use Rattle.tile_app.specs.Headline.{TellsOnlyNeighbour, WritesExactlyTheWindow}
+use Rattle.tile_app.specs.Draw.{PrintsDraw, view_of, texts_of}
+use Rattle.tile_app.specs.Headline.{TellsOnlyNeighbour, WritesExactlyTheWindow, WritesTheWholeTiles}
 use Rattle.tile_app.specs.Neighbour.{PrintsNeighbour}
 use Rattle.tile_app.specs.Tile.{OfTile}
 use Rattle.tile_app.specs.Windows.{window_asked}
@@ -23,14 +23,23 @@ use Rattle.tile_app.specs.Windows.{window_asked}
 tells : (t : Tiling) (a : Address) (edge : ℕ) (text : List ℕ) → PrintsNeighbour t a edge text → TellsOnlyNeighbour t a edge text
 tells t a edge text p = record { across = p.across; back = p.back; only_across = p.only_across; leads_back = p.leads_back; line = p.line }
 
-writes : (t : Tiling) (f : FrameValue) (window : Window) (glue : Bool) (formats : List Format) (text : List ℕ)
-    → PrintsDraw glue formats t f window text → WritesExactlyTheWindow t f window glue formats text
-writes t f window glue formats text p = record {
+writes : (t : Tiling) (f : FrameValue) (window : Window) (formats : List Format) (text : List ℕ)
+    → PrintsDraw false formats t f window text → WritesExactlyTheWindow t f window formats text
+writes t f window formats text p = record {
+  frame = p.pictures.frame;
+  tiles = p.pictures.tiles;
+  exactly = p.pictures.exactly;
+  texts = p.is_text ∙ ap (λ picture. texts_of (view_of t window) picture formats) p.pictures.is_picture;
+}
+
+writes-whole : (t : Tiling) (f : FrameValue) (window : Window) (formats : List Format) (text : List ℕ)
+    → PrintsDraw true formats t f window text → WritesTheWholeTiles t f window formats text
+writes-whole t f window formats text p = record {
   frame = p.pictures.frame;
   tiles = p.pictures.tiles;
   exactly = p.pictures.exactly;
   picture = p.picture;
-  is_picture = p.pictures.is_picture;
+  whole = p.pictures.is_picture;
   texts = p.is_text;
 }
 
@@ -73,21 +82,35 @@ module _ (words : List (List ℕ)) (handed : List Format) (left rest : Option (L
       )
 
   pub exactly_the_window : (rule : RuleChoice) (addr : List ℕ) (seed : ℕ) (window : WindowAsked)
-      (formats : List Format) (glue : Bool) → request_in words ≡ Ok (Draw rule addr seed window formats glue)
-      → OfCall words handed left rest (λ c. (t : Tiling) × (text : List ℕ) × Names c (Draw rule addr seed window formats glue) t
-      × OfTile t addr (λ a. WritesExactlyTheWindow t (frame_of a seed) (window_asked t.order window) glue formats text) × Took text)
-  exactly_the_window rule addr seed window formats glue right =
-      let p = of_request (Draw rule addr seed window formats glue) right in
-      let writes_it = writes printed.tiling (frame_of p.address seed) (window_asked printed.tiling.order window) glue formats done.2.0 p.holds in (
+      (formats : List Format) → request_in words ≡ Ok (Draw rule addr seed window formats false)
+      → OfCall words handed left rest (λ c. (t : Tiling) × (text : List ℕ)
+      × Names c (Draw rule addr seed window formats false) t
+      × OfTile t addr (λ a. WritesExactlyTheWindow t (frame_of a seed) (window_asked t.order window) formats text)
+      × Took text)
+  exactly_the_window rule addr seed window formats right =
+      let asked = Draw rule addr seed window formats false in
+      let p = of_request asked right in
+      let t = printed.tiling in
+      let holds = writes t (frame_of p.address seed) (window_asked t.order window) formats done.2.0 p.holds in (
         done.0,
         done.1,
-        (
-          printed.tiling,
-          done.2.0,
-          names (Draw rule addr seed window formats glue) right,
-          record { address = p.address; tile = p.tile; holds = writes_it },
-          done.2.2,
-        ),
+        (t, done.2.0, names asked right, record { address = p.address; tile = p.tile; holds = holds }, done.2.2),
+      )
+
+  pub whole_tiles : (rule : RuleChoice) (addr : List ℕ) (seed : ℕ) (window : WindowAsked)
+      (formats : List Format) → request_in words ≡ Ok (Draw rule addr seed window formats true)
+      → OfCall words handed left rest (λ c. (t : Tiling) × (text : List ℕ)
+      × Names c (Draw rule addr seed window formats true) t
+      × OfTile t addr (λ a. WritesTheWholeTiles t (frame_of a seed) (window_asked t.order window) formats text)
+      × Took text)
+  whole_tiles rule addr seed window formats right =
+      let asked = Draw rule addr seed window formats true in
+      let p = of_request asked right in
+      let t = printed.tiling in
+      let holds = writes-whole t (frame_of p.address seed) (window_asked t.order window) formats done.2.0 p.holds in (
+        done.0,
+        done.1,
+        (t, done.2.0, names asked right, record { address = p.address; tile = p.tile; holds = holds }, done.2.2),
       )
 
 -- what holds of equal words and layers

@@ -1,5 +1,5 @@
 -- The headline: what `neighbour` and `draw` promise of the plane.
-use Rattle.std.specs.Prelude.{◌≡◌, ℕ, Bool, List}
+use Rattle.std.specs.Prelude.{◌≡◌, ℕ, List, map}
 use Rattle.theory_addresses.specs.Address.{Address}
 use Rattle.layer_api.specs.declared.drawn.Drawn.{Drawn}
 use Rattle.layer_api.specs.declared.format.Format.{Format}
@@ -9,8 +9,9 @@ use Rattle.rule_model.specs.Tiling.{Tiling}
 use Rattle.tile_place.specs.Crossed.{IsOnlyAcross}
 use Rattle.tile_place.specs.declared.placed_tile.PlacedTile.{PlacedTile}
 use Rattle.tile_app.specs.Draw.{view_of, texts_of}
+use Rattle.tile_app.specs.DrawnTile.{drawn_of}
 use Rattle.tile_app.specs.Neighbour.{neighbour_line}
-use Rattle.tile_app.specs.Pictures.{IsPictureOf}
+use Rattle.tile_app.specs.Pictures.{AreDrawnWhole}
 use Rattle.tile_app.specs.TilesOfWindow.{TilesOfWindow}
 
 -- The text is the line of the only tile across the edge, with both tiles placed in their common supertile.
@@ -23,13 +24,20 @@ pub record TellsOnlyNeighbour (t : Tiling) (a : Address) (edge : ℕ) (text : Li
   pub line : text ≡ neighbour_line across back
 
 -- The texts are those of exactly the tiles that meet the window. Each comes exactly once; they are disjoint
--- and cover the window. The base's frame has the least depth that is enough. With glue these are the whole
--- tiles.
-pub record WritesExactlyTheWindow (t : Tiling) (f : FrameValue) (window : Window) (glue : Bool)
-    (formats : List Format) (text : List ℕ) : Type 0 where
+-- and cover the window. The base's frame has the least depth that is enough.
+pub record WritesExactlyTheWindow (t : Tiling) (f : FrameValue) (window : Window) (formats : List Format)
+    (text : List ℕ) : Type 0 where
+  pub frame : FrameValue
+  pub tiles : List PlacedTile
+  pub exactly : TilesOfWindow t f window frame tiles
+  pub texts : text ≡ texts_of (view_of t window) (map (drawn_of t) tiles) formats
+
+-- The texts are those of the whole tiles of exactly the tiles that meet the window.
+pub record WritesTheWholeTiles (t : Tiling) (f : FrameValue) (window : Window) (formats : List Format)
+    (text : List ℕ) : Type 0 where
   pub frame : FrameValue
   pub tiles : List PlacedTile
   pub exactly : TilesOfWindow t f window frame tiles
   pub picture : List Drawn
-  pub is_picture : IsPictureOf glue t window frame tiles picture
+  pub whole : AreDrawnWhole t window frame tiles picture
   pub texts : text ≡ texts_of (view_of t window) picture formats

@@ -1,5 +1,5 @@
 //! The top call: all that the program does.
-ghost use Rattle.std.specs.Prelude.{◌≡◌, ◌⊎◌, ◌<◌, ℕ, Bool, List, false, map, Ok};
+ghost use Rattle.std.specs.Prelude.{◌≡◌, ◌⊎◌, ◌<◌, ℕ, List, true, false, map, Ok};
 ghost use Rattle.call_words.specs.declared.rule_choice.RuleChoice.{RuleChoice};
 ghost use Rattle.call_words.specs.Request.{WindowAsked};
 ghost use Rattle.call_words.specs.Request.{request_in};
@@ -13,7 +13,7 @@ ghost use Rattle.call_notes.specs.declared.status.Status.{Status};
 ghost use Rattle.tile_app.specs.Answer.{Prints, CanBeAnswered, IsBeyondLimits};
 ghost use Rattle.tile_app.specs.Asked.{OfCall, IsAsked};
 ghost use Rattle.tile_app.specs.Causes.{Causes, IsNoLimit, IsRefused};
-ghost use Rattle.tile_app.specs.Headline.{TellsOnlyNeighbour, WritesExactlyTheWindow};
+ghost use Rattle.tile_app.specs.Headline.{TellsOnlyNeighbour, WritesExactlyTheWindow, WritesTheWholeTiles};
 ghost use Rattle.call_notes.specs.Notes.{note_of, IsNoted};
 ghost use Rattle.tile_app.specs.BaseFrame.{frame_of};
 ghost use Rattle.tile_app.specs.Call.{Call, Names, reads_file};
@@ -135,16 +135,27 @@ pub fn run<R: Source, W: Sink, N: Sink>(
         × Takes (W.taken sink.old) (W.taken sink.new) text) }
 
     // On `Done`, `draw` wrote exactly the tiles that meet the window. Each comes once; they are disjoint and
-    // cover the window. The supertile has the least depth that is enough. With `glue=yes` these are the whole
-    // tiles.
+    // cover the window. The supertile has the least depth that is enough.
     ensures exactly_the_window { (rule : RuleChoice) (addr : List ℕ) (seed : ℕ) (window : WindowAsked)
-        (formats : List Format) (glue : Bool)
+        (formats : List Format)
         → result ≡ Status.Done → request_in (texts words.now.items) ≡ Ok
-        (Draw rule addr seed window formats glue)
+        (Draw rule addr seed window formats false)
         → OfCall (texts words.now.items) (map (λ d. form d) layers.items) (R.left source.old)
         (R.left source.new)
-        (λ c. (t : Tiling) × (text : List ℕ) × Names c (Draw rule addr seed window formats glue) t
-        × OfTile t addr (λ a. WritesExactlyTheWindow t (frame_of a seed) (window_asked t.order window) glue
+        (λ c. (t : Tiling) × (text : List ℕ) × Names c (Draw rule addr seed window formats false) t
+        × OfTile t addr (λ a. WritesExactlyTheWindow t (frame_of a seed) (window_asked t.order window)
+        formats text)
+        × Takes (W.taken sink.old) (W.taken sink.new) text) }
+
+    // With `glue=yes` it wrote the whole tiles of these, which are disjoint and cover the window, too.
+    ensures whole_tiles { (rule : RuleChoice) (addr : List ℕ) (seed : ℕ) (window : WindowAsked)
+        (formats : List Format)
+        → result ≡ Status.Done → request_in (texts words.now.items) ≡ Ok
+        (Draw rule addr seed window formats true)
+        → OfCall (texts words.now.items) (map (λ d. form d) layers.items) (R.left source.old)
+        (R.left source.new)
+        (λ c. (t : Tiling) × (text : List ℕ) × Names c (Draw rule addr seed window formats true) t
+        × OfTile t addr (λ a. WritesTheWholeTiles t (frame_of a seed) (window_asked t.order window)
         formats text)
         × Takes (W.taken sink.old) (W.taken sink.new) text) }
 

@@ -5,7 +5,7 @@ use Rattle.tile_app.specs.Asked.{OfCall}
 use Rattle.tile_app.specs.Causes.{IsRefused}
 use Rattle.call_words.specs.Words.{texts}
 use Rattle.tile_app.proofs.Answered.{same_asked, refused_when, beyond_limits, complete}
-use Rattle.tile_app.proofs.Headline.{only_neighbour, exactly_the_window, with_same}
+use Rattle.tile_app.proofs.Headline.{only_neighbour, exactly_the_window, whole_tiles, with_same}
 use Rattle.tile_app.proofs.run.run.Goals as goal
 
 -- what was answered for the words and the layers as slices
@@ -20,8 +20,12 @@ pub returns-clause-only_neighbour : goal.returns-clause-only_neighbour
 returns-clause-only_neighbour g c = λ rule addr edge e right. only_neighbour _ _ _ _ _ (returns-clause-done g c e) rule addr edge right
 
 pub returns-clause-exactly_the_window : goal.returns-clause-exactly_the_window
-returns-clause-exactly_the_window g c = λ rule addr seed window formats glue e right.
-    exactly_the_window _ _ _ _ _ (returns-clause-done g c e) rule addr seed window formats glue right
+returns-clause-exactly_the_window g c = λ rule addr seed window formats e right.
+    exactly_the_window _ _ _ _ _ (returns-clause-done g c e) rule addr seed window formats right
+
+pub returns-clause-whole_tiles : goal.returns-clause-whole_tiles
+returns-clause-whole_tiles g c = λ rule addr seed window formats e right.
+    whole_tiles _ _ _ _ _ (returns-clause-done g c e) rule addr seed window formats right
 
 pub returns-clause-refused : goal.returns-clause-refused
 returns-clause-refused g c = λ e.
