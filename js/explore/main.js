@@ -143,7 +143,7 @@ class Explorer {
     if (!("tiling" in values)) byId("fault").hidden = true;
     if (state.by === "star") await this.countStars();
     state.scale = this.within(state.scale);
-    this.look.show();
+    if (this.cards.open === "look") this.look.show();
     this.showSupertile();
     this.changed();
   }

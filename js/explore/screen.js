@@ -54,7 +54,6 @@ export class Screen {
   /** `lookOf()` is the look that is wanted, or null; `refused` is told what the engine refuses. */
   constructor(canvas, state, workers, lookOf, refused) {
     Object.assign(this, { canvas, state, workers, lookOf, refused });
-    this.pen = canvas.getContext("2d", { alpha: false });
     this.top = this.under = null;
     this.underWay = 0;
     this.last = this.pace = 0; // when the last frame began, and milliseconds from one to the next
@@ -65,16 +64,30 @@ export class Screen {
     return Math.min(3, window.devicePixelRatio || 1);
   }
 
-  /** Asks for a frame: something has changed. */
+  /** Made when something is shown: before that a canvas would only cost frames. */
+  get pen() {
+    return (this.ownPen ??= this.canvas.getContext("2d", { alpha: false }));
+  }
+
+  /** Asks for a frame: something has changed. The first layer doesn't wait for it. */
   refresh() {
+    if (!this.top) this.begin();
     this.wanted ??= requestAnimationFrame(() => {
       this.wanted = null;
       this.frame();
     });
   }
 
+  begin() {
+    if (!this.lookOf()) return;
+    this.fit();
+    this.choose();
+    this.pump();
+  }
+
   frame() {
     this.measure();
+    if (!this.top?.hasBitmaps && !this.ownPen) return;
     this.fit();
     this.choose();
     this.show();
@@ -150,12 +163,11 @@ export class Screen {
 
   show() {
     const { pen, canvas, top, under } = this;
-    const isWhole = top && this.missing().length === 0;
+    const isWhole = this.missing().length === 0;
     if (!isWhole) {
-      pen.fillStyle = top?.look.line ?? "#22303a";
+      pen.fillStyle = top.look.line;
       pen.fillRect(0, 0, canvas.width, canvas.height);
     }
-    if (!top) return;
     if (under && !isWhole) this.showLayer(under);
     this.showLayer(top);
     if (under && isWhole) {
@@ -195,7 +207,6 @@ export class Screen {
 
   pump() {
     const { top } = this;
-    if (!top) return;
     const [names, each] = this.next(), most = each * this.workers.count;
     for (const name of names) {
       if (this.underWay >= most) break;

@@ -39,10 +39,10 @@ class Helper {
 }
 
 export class Workers {
-  /** Each worker begins with the engine, and has all that is opened. */
+  /** Each worker begins with the engine, of which a promise is given, and has all that is opened. */
   constructor(url, count, engine) {
     this.helpers = Array.from({ length: count }, () => new Helper(url));
-    this.askAll("begin", { engine });
+    engine.then((module) => this.askAll("begin", { module }), (fault) => this.askAll("begin", { fault }));
   }
 
   get count() {

@@ -9,7 +9,8 @@ import { starsIn } from "./stars.js";
 import { boardOf, commandOf, pngOf, svgOf } from "./files.js";
 import { faultPicture, rulePicture } from "./rule-picture.js";
 
-let engine = null; // a promise of it
+let begin;
+const engine = new Promise((...settle) => (begin = settle));
 const rules = new Map(); // by name: the text of the rule file, and the name by which the rule is built in
 const opened = new Map();
 
@@ -23,9 +24,11 @@ async function drawableOf(name) {
 }
 
 const questions = {
-  /** The engine as the page has it. */
-  begin({ engine: packed }) {
-    engine = bytesOf(packed).then((bytes) => Engine.load(bytes));
+  /** The engine as the page has compiled it, or why it could not. */
+  begin({ module, fault }) {
+    const [found, failed] = begin;
+    if (module) found(Engine.load(module));
+    else failed(fault);
   },
 
   /** The rules that the page has. */
@@ -103,12 +106,6 @@ const questions = {
         () => tiling.window({ ...look, at, half: [2, 2], addresses: false }))) ?? null;
   },
 };
-
-/** The bytes of a text in base 64, which may be packed by gzip. The browser's own reader is the fastest. */
-async function bytesOf({ text, isPacked }) {
-  const { body } = await fetch(`data:application/octet-stream;base64,${text.trim()}`);
-  return new Response(isPacked ? body.pipeThrough(new DecompressionStream("gzip")) : body).arrayBuffer();
-}
 
 function isAnswered(ask) {
   try {
