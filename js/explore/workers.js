@@ -39,10 +39,14 @@ class Helper {
 }
 
 export class Workers {
-  /** Each worker begins with the engine, of which a promise is given, and has all that is opened. */
-  constructor(url, count, engine) {
+  /** Each worker waits for the engine, and has all that is opened. */
+  constructor(url, count) {
     this.helpers = Array.from({ length: count }, () => new Helper(url));
-    engine.then((module) => this.askAll("begin", { module }), (fault) => this.askAll("begin", { fault }));
+  }
+
+  /** Gives each worker the engine, or the fault for which there is none. */
+  begin(engine) {
+    this.askAll("begin", engine);
   }
 
   get count() {
@@ -54,12 +58,11 @@ export class Workers {
     this.askAll("have", { rules });
   }
 
-  /** Asks all workers. The answer is that of the first; what another refuses, it refuses again when it
-   * counts. */
-  askAll(question, more) {
-    const [first, ...others] = this.helpers.map((helper) => helper.ask(question, more));
-    for (const other of others) other.catch(() => null);
-    return first;
+  /** Asks all workers. The answer is that of the one that is ready first; what another refuses, it refuses
+   * again when it counts. */
+  async askAll(question, more) {
+    const answers = this.helpers.map((helper) => helper.ask(question, more));
+    return Promise.any(answers).catch(() => answers[0]);
   }
 
   /** Opens a tiling in all workers. */

@@ -3,7 +3,6 @@ with the top and the program."""
 import cmath
 import glob
 import json
-import math
 import os
 import re
 import shutil
