@@ -53,11 +53,6 @@ export class Workers {
     return this.helpers.length;
   }
 
-  /** Gives each worker the rules that the page has. */
-  give(rules) {
-    this.askAll("have", { rules });
-  }
-
   /** Asks all workers. The answer is that of the one that is ready first; what another refuses, it refuses
    * again when it counts. */
   async askAll(question, more) {
@@ -65,9 +60,9 @@ export class Workers {
     return Promise.any(answers).catch(() => answers[0]);
   }
 
-  /** Opens a tiling in all workers. */
-  open(name) {
-    return this.askAll("open", { name });
+  /** Opens a tiling in all workers: its rule file, or the rule that is built in by a name. */
+  open(name, rule) {
+    return this.askAll("open", { name, ...rule });
   }
 
   ask(question, more) {
