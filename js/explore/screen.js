@@ -9,6 +9,7 @@ const UNDER_WAY = 2; // blocks in view that a worker has at a time; of those aro
 const LARGER = 1.6, SMALLER = 1.4;
     // so many times larger or smaller a layer is shown before the next is begun
 const REST = 80; // milliseconds after which a scale rests
+const PAUSE = 60; // milliseconds after a view is there, before blocks around it are painted
 const SLOW = 17.5; // milliseconds a frame: where frames take longer, enlarged blocks are not made smooth
 
 class Layer {
@@ -195,14 +196,16 @@ export class Screen {
     return this.top.blocksIn(this.viewIn(this.top)).filter((name) => !this.top.blocks.get(name));
   }
 
-  /** The blocks to be painted next, and how many a worker may have: those in view, and then those around it,
-   * of which none waits in a worker, so that a new view never waits for them. While the scale changes, only
-   * those of the view for which the layer was begun. */
+  /** The blocks to be painted next, and how many a worker may have: those in view, and after a pause those
+   * around it, of which none waits in a worker, so that a new view never waits for them. While the scale
+   * changes, only those of the view for which the layer was begun. */
   next() {
     const { top, state, ratio } = this, isFree = (name) => !top.blocks.has(name);
     if (top.scale !== state.scale * ratio) return [top.goal.filter(isFree), UNDER_WAY];
     const view = this.viewIn(top), seen = top.blocksIn(view).filter(isFree);
-    return seen.length ? [seen, UNDER_WAY] : [top.blocksIn(view, 1).filter(isFree), 1];
+    if (seen.length) return [seen, UNDER_WAY];
+    const isPause = performance.now() - (top.ended ?? top.began) < PAUSE;
+    return isPause ? [[], 0] : [top.blocksIn(view, 1).filter(isFree), 1];
   }
 
   pump() {
@@ -242,12 +245,13 @@ export class Screen {
 
   keep(layer, name, bitmap, tiles, spent) {
     layer.blocks.set(name, bitmap);
-    if (!layer.goal.includes(name) || layer.isTold) return;
+    if (!layer.goal.includes(name) || layer.ended) return;
     layer.tiles += tiles;
     layer.spent += spent;
     if (this.isPainting(layer)) return;
-    layer.isTold = true;
-    const waited = performance.now() - layer.began;
+    layer.ended = performance.now();
+    setTimeout(() => this.pump(), PAUSE + 1);
+    const waited = layer.ended - layer.began;
     Object.assign(this.report, { views: this.report.views + 1, tiles: layer.tiles, spent: layer.spent,
         waited });
     this.report.first ??= performance.now(); // since the page began to load
