@@ -92,7 +92,6 @@ if make_random; then
         "$work/random.node")"
 fi
 tried=node
-is_there python:selenium || python=python3
 if [ -f "$work/random.wasm" ]; then set -- "$work/random.wasm" $((rounds / 5)); else set -- "$wasm" 0; fi
 python3 "$tests/make_page.py" "$wasm" "$work/usual.calls" "$@" "$top"/rules/*.toml > "$work/page.html" || failed 'no page'
 for browser in chromium firefox; do compare_browser $browser || failed "$browser answers differently"; done

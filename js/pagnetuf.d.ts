@@ -208,8 +208,9 @@ export declare class Tiling {
   neighbour<A extends AddressLike>(address: A, edge: number): Across<SameForm<A>>;
   /** How a tile lies to another. Refusal BadAddress. */
   pair(a: AddressLike, b: AddressLike): Relation;
-  /** The only tile that holds a point, of the supertile of `depth` levels at `top`. Refusal BadWords, Outside,
-   * CoordLimit. */
+  /** The only tile that holds a point, of the supertile of `depth` levels at `top`. Refusal BadWords: 1 for `top`, 2
+   * for `depth`, 3 for `point`; Outside, without fields: the supertile does not hold the point; CoordLimit: the first
+   * value on the way with a coefficient above 2^24. */
   locate(top: Placed, depth: number, point: PointLike): Named<string>;
   /** `place` for many addresses. Each answer has a status: 0, or that of its refusal. */
   placeAll(addresses: Addresses): { kinds: Uint8Array; turns: Uint8Array; shifts: Int32Array; statuses: Uint8Array };
@@ -228,7 +229,7 @@ export declare class Tiling {
   /** n: 1 for each tile that meets a window, 0 for each other one. It is what decides which tiles `window` has, for
    * tiles of any frame. Of whole tiles it looks at the first halves alone. Refusal BadWords. */
   meets(tiles: Patch | Omit<Listing, "addresses">, window?: Box): Uint8Array;
-  /** The only tile of a frame that holds a point. Refusal BadWords, BadAddress, CoordLimit. */
+  /** The only tile of a frame that holds a point. Refusal BadWords, BadAddress, CoordLimit, as for `window` there. */
   tileAt(point: PointLike, frame?: Frame): Named<string>;
   /** The tiles of a path across edges, the base first. The frame first grows to `grow` levels, 0 by default. Refusal
    * BadAddress, NoEdge, DepthLimit; BadWords: `grow` above 64, or more than 30,000 edges. */

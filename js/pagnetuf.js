@@ -9,6 +9,7 @@ const ABI = 2;
 const BUILT_IN = Object.freeze(["chair", "p2", "p3", "ab", "halfhex"]);
 const MOST_TILES = 200000;
 const MOST_DIGITS = 64;
+const FARTHEST = 2 ** 24; // a coefficient of what is computed
 const NAMES = {
   1: "NotText", 2: "BadWords", 3: "RuleRefused", 4: "BadAddress", 5: "DepthLimit", 6: "CoordLimit", 7: "TooManyTiles",
   8: "Outside", 11: "NoMemory", 12: "NoEdge", 13: "BadScript", 15: "NoVertex", 16: "StarTooBig", 17: "BadListing",
@@ -30,7 +31,7 @@ const SENTENCES = {
   StarTooBig: "more than 64 tiles have the vertex",
   BadListing: "the listing is not that of the window",
 };
-const OK = 0, NOT_TEXT = 1, RULE_REFUSED = 3, BAD_ADDRESS = 4, OUTSIDE = 8;
+const OK = 0, NOT_TEXT = 1, BAD_WORDS = 2, RULE_REFUSED = 3, BAD_ADDRESS = 4, COORD_LIMIT = 6, OUTSIDE = 8;
 const NO_MEMORY = 11, NO_EDGE = 12, NO_VERTEX = 15, BAD_LISTING = 17;
 const RELATIONS = ["strangers", "same", "apart", "beside"];
 const FAULTS = ["", "NoTile", "NotOfFrame", "Double", "Missing", "WrongPlace", "Stray"];
@@ -94,6 +95,8 @@ function seedText(seed) {
   const [low, high] = halvesOf(seed);
   return String((BigInt(high) << 32n) + BigInt(low));
 }
+
+const plus = (a, b) => Array.from(a, (part, i) => part + b[i]);
 
 function halfOf(half) {
   if (half?.length !== 2) throw new TypeError("half has two whole numbers");
@@ -788,12 +791,61 @@ export class Tiling {
   }
 
   locate(top, depth, point) {
-    const memory = this.#memory, tile = memory.place("tile"), address = memory.place("address");
+    const memory = this.#memory, status = this.#located(top, depth, point);
+    if (status === BAD_WORDS) throw new Refusal(`2 BadWords ${this.#wrongOf(top, depth)}`);
+    if (status === COORD_LIMIT) throw new Refusal(`6 CoordLimit ${this.#firstFar(top, depth, point)}`);
+    if (status) this.#refuse(status);
+    return { ...memory.tile(memory.place("tile")), address: this.#text(memory.place("address")) };
+  }
+
+  #located(top, depth, point) {
+    const memory = this.#memory, [tile, address] = ["tile", "address"].map((name) => memory.place(name));
     const given = memory.putTile(memory.place("top"), top), levels = small(depth, "a depth");
     const at = memory.putPoint(memory.place("point"), fourOf(point, "a point"));
-    const status = memory.calls.tiling_locate(this.#machine, given, levels, at, tile, address);
-    if (status) this.#refuse(status);
-    return { ...memory.tile(tile), address: this.#text(address) };
+    return memory.calls.tiling_locate(this.#machine, given, levels, at, tile, address);
+  }
+
+  // The place of the wrong argument of `locate`, from 1.
+  #wrongOf(top, depth) {
+    const memory = this.#memory, given = memory.putTile(memory.place("top"), top);
+    if (memory.calls.tiling_corners(this.#machine, given, memory.place("outline"))) return 1;
+    return depth < 0 || depth > MOST_DIGITS ? 2 : 3;
+  }
+
+  #firstFar(top, depth, point) {
+    for (const value of this.#valuesOf(top, depth, point)) {
+      if (value.some((it) => Math.abs(it) > FARTHEST)) return value;
+    }
+    return "";
+  }
+
+  // What `locate` computes, in its order: powers of the factor, the supertile's corners, and level by level the shift
+  // and the corners of each child.
+  *#valuesOf(top, depth, point) {
+    const powers = [[1, 0, 0, 0]], { kinds } = this.rule();
+    for (let i = 0; i < depth; i++) yield (powers[i + 1] = this.product(powers[i], this.factor));
+    let tile = top;
+    yield* this.#cornersOf(tile, kinds, powers[depth]);
+    for (let level = depth - 1; level >= 0; level--) {
+      const parts = kinds[tile.kind].children.map((child) => this.#movedBy(tile, child, powers[level]));
+      for (const part of parts) {
+        yield part.shift;
+        yield* this.#cornersOf(part, kinds, powers[level]);
+      }
+      tile = parts.find((part) => this.#located(part, level, point) !== OUTSIDE);
+    }
+  }
+
+  // A child of a supertile at its place; `scale` is the factor of the child's own level.
+  #movedBy({ turn, shift }, child, scale) {
+    const moved = this.turnedPoint(this.product(child.shift, scale), turn);
+    return { kind: child.kind, turn: (child.turn + turn) % this.order, shift: plus(shift, moved) };
+  }
+
+  #cornersOf({ kind, turn, shift }, kinds, scale) {
+    const { vertices } = kinds[kind], count = vertices.length >> 2;
+    const vertex = (i) => this.product(vertices.subarray(4 * i, 4 * i + 4), scale);
+    return Array.from({ length: count }, (_, i) => plus(shift, this.turnedPoint(vertex(i), turn)));
   }
 
   placeAll(addresses) {
@@ -905,8 +957,7 @@ export class Tiling {
     const memory = this.#memory, tile = memory.place("tile"), address = memory.place("address");
     const at = memory.putPoint(memory.place("point"), fourOf(point, "a point"));
     const status = memory.calls.tiling_at(this.#machine, this.#putFrame(base, seed), at, tile, address);
-    if (status === BAD_ADDRESS) this.#refuseAddress(base);
-    if (status) this.#refuse(status);
+    if (status) this.#refuse(status, this.drawWords({ at: point, half: [1, 1], seed, base, layers: ["census"] }));
     return { ...memory.tile(tile), address: this.#text(address) };
   }
 

@@ -83,7 +83,8 @@ def rule_files():
 def page(engine, sources):
     """The page, with an engine that is packed already."""
     rules = json.dumps(rule_files()).replace("<", "\\u003c")
-    worker, boot, main = (Bundle(f"js/explore/{name}.js").text() for name in ("worker/worker", "boot", "main"))
+    entries = ("worker/worker", "boot", "engine", "main")
+    worker, boot, compiler, main = (Bundle(f"js/explore/{name}.js").text() for name in entries)
     parts = {
         "<!-- sources -->": f'<meta name="tiling-sources" content="{sources}">',
         "<!-- style -->": f"<style>\n{read('js', 'explore', 'style.css')}</style>",
@@ -91,6 +92,7 @@ def page(engine, sources):
         "<!-- engine -->": f'<script id="tiling-wasm" type="text/plain" data-form="gzip">{engine}</script>',
         "<!-- worker -->": f'<script id="worker-code" type="text/plain">\n{worker}</script>',
         "<!-- boot -->": f"<script>\n{boot}</script>",
+        "<!-- compile -->": f"<script>\n{compiler}</script>",
         "<!-- main -->": f'<script type="module">\n{main}</script>',
     }
     text = read("js", "explore.html")

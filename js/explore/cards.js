@@ -31,7 +31,7 @@ export class Cards {
     byId(name).hidden = false;
     for (const button of openers(name)) button.setAttribute("aria-expanded", "true");
     this.opened(name);
-    const hasMouse = matchMedia("(pointer: fine)").matches,
+    const hasMouse = !matchMedia("(pointer: coarse)").matches,
         search = byId(name).querySelector("[type=search]");
     (hasMouse && search ? search : byId(name)).focus({ preventScroll: true });
   }

@@ -14,7 +14,7 @@ import { Screen } from "./screen.js";
 import { MOST_SCALE, SCALE, fileName, packed, read, seedOf, state, unpacked, written } from "./state.js";
 import { TileCard } from "./tile-card.js";
 import { TilingsCard } from "./tilings-card.js";
-import { workersWithRules } from "./start.js";
+import { ruleOf } from "./rules.js";
 
 const MOST_TILES = { star: 40000, child: 120000 }; // in a view, for colours that take longer
 const MOST_PLAIN = 220000;
@@ -38,7 +38,7 @@ class Explorer {
     this.told = null; // what the worker tells of the tiling
     this.tilings = new Map(); // promises of that, by name
     this.files = new Map(); // the text of each rule file that was opened, for addresses
-    this.workers = workersWithRules();
+    this.workers = window.startedWorkers;
     this.screen = new Screen(byId("picture"), state, this.workers,
         () => (this.isKnown ? this.lookNow() : null), (refusal) => this.refuse(refusal));
     this.marks = new Marks(byId("tiling"), state);
@@ -143,7 +143,7 @@ class Explorer {
     if (!("tiling" in values)) byId("fault").hidden = true;
     if (state.by === "star") await this.countStars();
     state.scale = this.within(state.scale);
-    this.look.show();
+    if (this.cards.open === "look") this.look.show();
     this.showSupertile();
     this.changed();
   }
@@ -203,7 +203,7 @@ class Explorer {
   }
 
   open(name) {
-    if (!this.tilings.has(name)) this.tilings.set(name, this.workers.open(name));
+    if (!this.tilings.has(name)) this.tilings.set(name, this.workers.open(name, ruleOf(name)));
     return this.tilings.get(name);
   }
 

@@ -23,10 +23,15 @@ export class Marks {
   constructor(canvas, state) {
     this.canvas = canvas;
     this.state = state;
-    this.pen = canvas.getContext("2d");
     this.pointed = this.kept = null; // answers of the worker
     this.supertile = [];
     this.hasCross = false;
+    this.isBlank = true;
+  }
+
+  /** Made when there is something to mark: an empty canvas would only cost frames. */
+  get pen() {
+    return (this.ownPen ??= this.canvas.getContext("2d"));
   }
 
   refresh() {
@@ -37,6 +42,12 @@ export class Marks {
   }
 
   draw() {
+    const isBlank = !this.supertile.length && !this.pointed && !this.kept && !this.hasCross;
+    if (!isBlank || !this.isBlank) this.mark();
+    this.isBlank = isBlank;
+  }
+
+  mark() {
     const { canvas, pen } = this, ratio = Math.min(3, window.devicePixelRatio || 1);
     canvas.width = Math.round(canvas.clientWidth * ratio);
     canvas.height = Math.round(canvas.clientHeight * ratio);

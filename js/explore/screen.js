@@ -9,6 +9,7 @@ const UNDER_WAY = 2; // blocks in view that a worker has at a time; of those aro
 const LARGER = 1.6, SMALLER = 1.4;
     // so many times larger or smaller a layer is shown before the next is begun
 const REST = 80; // milliseconds after which a scale rests
+const PAUSE = 60; // milliseconds after a view is there, before blocks around it are painted
 const SLOW = 17.5; // milliseconds a frame: where frames take longer, enlarged blocks are not made smooth
 
 class Layer {
@@ -54,7 +55,6 @@ export class Screen {
   /** `lookOf()` is the look that is wanted, or null; `refused` is told what the engine refuses. */
   constructor(canvas, state, workers, lookOf, refused) {
     Object.assign(this, { canvas, state, workers, lookOf, refused });
-    this.pen = canvas.getContext("2d", { alpha: false });
     this.top = this.under = null;
     this.underWay = 0;
     this.last = this.pace = 0; // when the last frame began, and milliseconds from one to the next
@@ -65,16 +65,30 @@ export class Screen {
     return Math.min(3, window.devicePixelRatio || 1);
   }
 
-  /** Asks for a frame: something has changed. */
+  /** Made when something is shown: before that a canvas would only cost frames. */
+  get pen() {
+    return (this.ownPen ??= this.canvas.getContext("2d", { alpha: false }));
+  }
+
+  /** Asks for a frame: something has changed. The first layer doesn't wait for it. */
   refresh() {
+    if (!this.top) this.begin();
     this.wanted ??= requestAnimationFrame(() => {
       this.wanted = null;
       this.frame();
     });
   }
 
+  begin() {
+    if (!this.lookOf()) return;
+    this.fit();
+    this.choose();
+    this.pump();
+  }
+
   frame() {
     this.measure();
+    if (!this.top?.hasBitmaps && !this.ownPen) return;
     this.fit();
     this.choose();
     this.show();
@@ -150,12 +164,11 @@ export class Screen {
 
   show() {
     const { pen, canvas, top, under } = this;
-    const isWhole = top && this.missing().length === 0;
+    const isWhole = this.missing().length === 0;
     if (!isWhole) {
-      pen.fillStyle = top?.look.line ?? "#22303a";
+      pen.fillStyle = top.look.line;
       pen.fillRect(0, 0, canvas.width, canvas.height);
     }
-    if (!top) return;
     if (under && !isWhole) this.showLayer(under);
     this.showLayer(top);
     if (under && isWhole) {
@@ -183,19 +196,20 @@ export class Screen {
     return this.top.blocksIn(this.viewIn(this.top)).filter((name) => !this.top.blocks.get(name));
   }
 
-  /** The blocks to be painted next, and how many a worker may have: those in view, and then those around it,
-   * of which none waits in a worker, so that a new view never waits for them. While the scale changes, only
-   * those of the view for which the layer was begun. */
+  /** The blocks to be painted next, and how many a worker may have: those in view, and after a pause those
+   * around it, of which none waits in a worker, so that a new view never waits for them. While the scale
+   * changes, only those of the view for which the layer was begun. */
   next() {
     const { top, state, ratio } = this, isFree = (name) => !top.blocks.has(name);
     if (top.scale !== state.scale * ratio) return [top.goal.filter(isFree), UNDER_WAY];
     const view = this.viewIn(top), seen = top.blocksIn(view).filter(isFree);
-    return seen.length ? [seen, UNDER_WAY] : [top.blocksIn(view, 1).filter(isFree), 1];
+    if (seen.length) return [seen, UNDER_WAY];
+    const isPause = performance.now() - (top.ended ?? top.began) < PAUSE;
+    return isPause ? [[], 0] : [top.blocksIn(view, 1).filter(isFree), 1];
   }
 
   pump() {
     const { top } = this;
-    if (!top) return;
     const [names, each] = this.next(), most = each * this.workers.count;
     for (const name of names) {
       if (this.underWay >= most) break;
@@ -231,12 +245,13 @@ export class Screen {
 
   keep(layer, name, bitmap, tiles, spent) {
     layer.blocks.set(name, bitmap);
-    if (!layer.goal.includes(name) || layer.isTold) return;
+    if (!layer.goal.includes(name) || layer.ended) return;
     layer.tiles += tiles;
     layer.spent += spent;
     if (this.isPainting(layer)) return;
-    layer.isTold = true;
-    const waited = performance.now() - layer.began;
+    layer.ended = performance.now();
+    setTimeout(() => this.pump(), PAUSE + 1);
+    const waited = layer.ended - layer.began;
     Object.assign(this.report, { views: this.report.views + 1, tiles: layer.tiles, spent: layer.spent,
         waited });
     this.report.first ??= performance.now(); // since the page began to load

@@ -3,8 +3,26 @@ import { tileName, tilingNamed } from "./catalogue.js";
 import { byId, copyText, drawing, element, withSign } from "./page.js";
 
 /** A text of the engine, which may be broken in lines after its commas. */
-const code = (text) => element(
-    "code", {}, ...text.split(/(?<=[,+])/).flatMap((part, i) => (i ? [element("wbr"), part] : [part])));
+function code(text) {
+  const parts = text.split(/(?<=[,+])(?!…)/);
+  return element("code", {}, ...parts.flatMap((part, i) => (i ? [element("wbr"), part] : [part])));
+}
+
+const ALIKE = 3; // so many digits that are alike, and more, are left out
+
+const digitsOf = (address) => address.slice(address.indexOf(":") + 1).split(",");
+
+/** The address of a neighbour, without the digits at its coarse end that are those of the tile too. */
+function shortened(name, tile) {
+  const [own] = tile.split(" + ").map(digitsOf);
+  const shorter = (address) => {
+    const digits = digitsOf(address);
+    let count = digits.length;
+    while (count > 1 && digits[count - 1] === own[count - 1]) count--;
+    return digits.length - count < ALIKE ? address : `${address.split(":")[0]}:${digits.slice(0, count)},…`;
+  };
+  return name.split(" + ").map(shorter).join(" + ");
+}
 
 export class TileCard {
   constructor(app) {
@@ -24,25 +42,34 @@ export class TileCard {
     byId("tile-title").textContent = tileName(this.app.state.tiling, tile.kind, this.app.state.isWhole);
     byId("tile-body").replaceChildren(
         this.facts(tile), ...(kept ? [this.neighbours(tile), ...this.star(tile)] : []));
+    byId("tile-body").scrollTop = 0;
   }
 
   facts(tile) {
     const { order } = this.app.told, degrees = (360 * tile.turn) / order;
-    const facts = [["Address", code(tile.name)], ["Turn", `${tile.turn} of ${order}, which is ${degrees}°`],
-        ["Position", code(tile.shift.join())]];
+    const facts = [["Address", code(tile.name), " ", this.copyOf(tile.name)],
+        ["Turn", `${tile.turn} of ${order}, which is ${degrees}°`], ["Position", code(tile.shift.join())]];
     return element("dl", { class: "facts" },
-        ...facts.flatMap(([name, value]) => [element("dt", {}, name), element("dd", {}, value)]));
+        ...facts.flatMap(([name, ...value]) => [element("dt", {}, name), element("dd", {}, ...value)]));
   }
 
-  neighbours({ edges }) {
-    const rows = edges.flatMap((edge, number) =>
-        [element("dt", {}, `Edge ${number}`), element("dd", {}, edge ? this.link(edge) : "not known here")]);
+  copyOf(address) {
+    return element("button", { class: "link more", onclick: () => copyText(address, "Address") }, "Copy");
+  }
+
+  neighbours({ name, edges }) {
+    const texts = edges.map((edge) => edge && shortened(edge.name, name));
+    const rows = edges.flatMap((edge, number) => [element("dt", {}, `Edge ${number}`),
+        element("dd", {}, edge ? this.link(edge, texts[number]) : "not known here")]);
+    const isShorter = texts.some((text) => text?.includes("…"));
+    const hint = element("p", { class: "hint" }, "Where … stands, the digits go on as above.");
     return element("div", { class: "more" }, element("h3", {}, "Across its edges"),
-        element("dl", { class: "facts" }, ...rows));
+        element("dl", { class: "facts" }, ...rows), ...(isShorter ? [hint] : []));
   }
 
-  link({ name, middle }) {
-    return element("button", { class: "link", onclick: () => this.app.goToTile(middle) }, code(name));
+  link({ name, middle }, text) {
+    const go = () => this.app.goToTile(middle);
+    return element("button", { class: "link", title: name, onclick: go }, code(text));
   }
 
   star({ star, name, corner }) {

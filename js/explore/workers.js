@@ -39,32 +39,30 @@ class Helper {
 }
 
 export class Workers {
-  /** Each worker begins with the engine, and has all that is opened. */
-  constructor(url, count, engine) {
+  /** Each worker waits for the engine, and has all that is opened. */
+  constructor(url, count) {
     this.helpers = Array.from({ length: count }, () => new Helper(url));
-    this.askAll("begin", { engine });
+  }
+
+  /** Gives each worker the engine, or the fault for which there is none. */
+  begin(engine) {
+    this.askAll("begin", engine);
   }
 
   get count() {
     return this.helpers.length;
   }
 
-  /** Gives each worker the rules that the page has. */
-  give(rules) {
-    this.askAll("have", { rules });
+  /** Asks all workers. The answer is that of the one that is ready first; what another refuses, it refuses
+   * again when it counts. */
+  async askAll(question, more) {
+    const answers = this.helpers.map((helper) => helper.ask(question, more));
+    return Promise.any(answers).catch(() => answers[0]);
   }
 
-  /** Asks all workers. The answer is that of the first; what another refuses, it refuses again when it
-   * counts. */
-  askAll(question, more) {
-    const [first, ...others] = this.helpers.map((helper) => helper.ask(question, more));
-    for (const other of others) other.catch(() => null);
-    return first;
-  }
-
-  /** Opens a tiling in all workers. */
-  open(name) {
-    return this.askAll("open", { name });
+  /** Opens a tiling in all workers: its rule file, or the rule that is built in by a name. */
+  open(name, rule) {
+    return this.askAll("open", { name, ...rule });
   }
 
   ask(question, more) {

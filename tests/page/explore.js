@@ -70,8 +70,18 @@ window.asked = {
     return [scrollWidth - innerWidth, scrollHeight - innerHeight];
   },
 
+  /** How many pixels of what an element has can only be seen by scrolling. */
+  hidden(id) {
+    const { scrollHeight, clientHeight } = document.getElementById(id);
+    return scrollHeight - clientHeight;
+  },
+
+  box(id) {
+    return document.getElementById(id).getBoundingClientRect().toJSON();
+  },
+
   isInView(card) {
-    const { left, top, right, bottom, width, height } = document.getElementById(card).getBoundingClientRect();
+    const { left, top, right, bottom, width, height } = asked.box(card);
     const isInside = left >= 0 && top >= 0 && right <= innerWidth && bottom <= innerHeight;
     return isInside && width > 200 && height > 100;
   },

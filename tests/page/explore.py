@@ -3,7 +3,6 @@ with the top and the program."""
 import cmath
 import glob
 import json
-import math
 import os
 import re
 import shutil
@@ -263,8 +262,22 @@ def neighbours(page, known, tiles):
         )
         if tile:
             page.true(f"{name} is across, which is {tile.name}", alike(name, tile.name))
-    page.same("rows of the card", page.js("document.querySelectorAll('#tile .link code').length"), len(told))
+    buttons = "[...document.querySelectorAll('#tile .link:has(code)')]"
+    links = page.js(f"{buttons}.map(it => [it.title, it.textContent])")
+    page.same("the tiles that the card links to", [it[0] for it in links], told)
+    own = page.js("explorer.marks.kept.name").split(" + ")[0]
+    for name, said in links:
+        page.same(f"{said} as an address", lengthened(said, own), name)
     page.browser.key("Escape")
+
+
+def lengthened(said, own):
+    """An address of the card, with the digits of the tile for "…"."""
+    parts = []
+    for part in said.split(" + "):
+        count = part.count(",") if part.endswith(",…") else None
+        parts.append(part if count is None else ",".join([part[:-2], *own.split(",")[count:]]))
+    return " + ".join(parts)
 
 
 def inside_loosely(polygon, point):
@@ -615,6 +628,20 @@ def try_looks(page):
                 page.same(f"controls of {card} without a name", page.js(f"asked.nameless('{card}')"), [])
                 page.js("explorer.cards.close(true)")
             page.same("controls that are too small for a finger", page.js("asked.small()"), [])
+    far_card(page)
+
+
+def far_card(page):
+    """The card of a tile far away, with long addresses, is seen whole, and stands beside the menu."""
+    page.open((1600, 1000), tiling="penrose_p3", at="-3184,18067,-1000000,-5649", seed=4)
+    x, y = page.middle()
+    page.browser.click(x + 3, y + 4)
+    page.wait("explorer.marks.kept")
+    page.same("what is hidden of the tile's card", page.js("asked.hidden('tile-body')"), 0)
+    page.js("explorer.cards.show('tilings')")
+    tile, menu = page.js("['tile', 'tilings'].map(it => asked.box(it))")
+    page.true("the card is beside the menu", tile["left"] > menu["right"])
+    page.js("explorer.cards.close(true)")
 
 
 ALL = (

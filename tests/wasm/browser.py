@@ -3,8 +3,8 @@
 
   tests/wasm/browser.py chromium|firefox PAGE [SECONDS]
 
-Chromium is driven by Selenium, and Firefox by its own protocol, Marionette, which needs nothing else. Ends with 1 if the
-page failed, and with 77 if there is no such browser here."""
+Each is driven by its own protocol, DevTools or Marionette, which needs nothing else. Ends with 1 if the page failed, and
+with 77 if there is no such browser here."""
 import json
 import os
 import shutil
@@ -14,29 +14,28 @@ import sys
 import tempfile
 import time
 
+sys.dont_write_bytecode = True
+sys.path[:0] = [os.path.join(os.path.dirname(os.path.abspath(__file__)), "..", "page")]
+import browsers  # noqa: E402
+
 TEXT = "return document.querySelector('pre').textContent"
 
 
-class Chromium:
-    def __init__(self, _folder):
-        from selenium import webdriver
-        from selenium.webdriver.chrome.options import Options
-        from selenium.webdriver.chrome.service import Service
-
-        options = Options()
-        options.binary_location = shutil.which("chromium")
-        for word in ("--headless=new", "--no-sandbox", "--disable-gpu", "--disable-dev-shm-usage"):
-            options.add_argument(word)
-        self.driver = webdriver.Chrome(service=Service(shutil.which("chromedriver")), options=options)
+class Chromium(browsers.Chromium):
+    def __init__(self, _folder=None):
+        super().__init__()
 
     def open(self, page):
-        self.driver.get(f"file://{page}")
+        """Opens a file, or a URL, and waits until it is loaded."""
+        super().open(page if "://" in page else f"file://{page}")
+        while self.js("document.readyState !== 'complete' || location.href === 'about:blank'"):
+            time.sleep(0.05)
 
     def text(self):
-        return self.driver.execute_script(TEXT)
+        return self.js(f"(() => {{ {TEXT} }})()")
 
     def close(self):
-        self.driver.quit()
+        self.end()
 
 
 class Firefox:
@@ -98,13 +97,7 @@ def connected(port):
 
 
 def is_there(name):
-    if name == "firefox":
-        return firefox() is not None
-    try:
-        import selenium.webdriver  # noqa: F401
-    except ModuleNotFoundError:
-        return False
-    return bool(shutil.which("chromium") and shutil.which("chromedriver"))
+    return (firefox() if name == "firefox" else Chromium.program()) is not None
 
 
 def main():

@@ -4,7 +4,7 @@ painted, in the four colours of the page and that of the lines.
 
   tests/wasm/example.py TOP WASM
 
-Ends with 1 if it isn't so, and with 77 if Chromium can't be driven here."""
+Ends with 1 if it isn't so, and with 77 if there is no Chromium here."""
 import functools
 import http.server
 import os
@@ -17,13 +17,13 @@ import time
 
 from browser import Chromium, is_there
 
-PIXELS = """const canvas = document.querySelector('canvas'), seen = {};
+PIXELS = """(() => { const canvas = document.querySelector('canvas'), seen = {};
 const { data } = canvas.getContext('2d').getImageData(0, 0, canvas.width, canvas.height);
 for (let i = 0; i < data.length; i += 4) {
   const name = [...data.subarray(i, i + 4)].join();
   seen[name] = (seen[name] || 0) + 1;
 }
-return seen;"""
+return seen; })()"""
 COLOURS = {"31,95,122,255", "142,202,230,255", "244,184,96,255", "242,233,216,255"}
 
 
@@ -49,11 +49,11 @@ def pixels(folder: str):
     """How often each colour is on the canvas, as soon as all of it is painted, or after a while."""
     server = http.server.ThreadingHTTPServer(("127.0.0.1", 0), functools.partial(Quiet, directory=folder))
     threading.Thread(target=server.serve_forever, daemon=True).start()
-    browser = Chromium(folder)
+    browser = Chromium()
     try:
-        browser.driver.get(f"http://127.0.0.1:{server.server_port}/page.html")
+        browser.open(f"http://127.0.0.1:{server.server_port}/page.html")
         for _ in range(40):
-            seen = browser.driver.execute_script(PIXELS)
+            seen = browser.js(PIXELS)
             if "0,0,0,0" not in seen:
                 break
             time.sleep(0.25)

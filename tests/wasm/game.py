@@ -5,7 +5,7 @@ equations, the game ends with all tiles dark.
 
   tests/wasm/game.py TOP
 
-Ends with 1 if it isn't so, and with 77 if Chromium can't be driven here."""
+Ends with 1 if it isn't so, and with 77 if there is no Chromium here."""
 import os
 import re
 import subprocess
@@ -14,9 +14,9 @@ import tempfile
 
 from browser import Chromium, is_there
 
-LIT = "return lit.map(Number)"
-PRESS = "shapes[arguments[0]].dispatchEvent(new MouseEvent('click'))"
-NEAR = "return board.tiles.map((tile) => tile.neighbours)"
+LIT = "lit.map(Number)"
+PRESS = "shapes[{}].dispatchEvent(new MouseEvent('click'))"
+NEAR = "board.tiles.map((tile) => tile.neighbours)"
 
 
 def solution(near, lit):
@@ -39,17 +39,17 @@ def solution(near, lit):
 def faults(run):
     """What is wrong with the game."""
     near, first = run(NEAR), run(LIT)
-    if len(first) != 60 or run("return document.querySelectorAll('polygon').length") != 60:
+    if len(first) != 60 or run("document.querySelectorAll('polygon').length") != 60:
         yield "there aren't 60 tiles"
     for tile in range(60):
-        run(PRESS, tile)
+        run(PRESS.format(tile))
         changed = {i for i, (one, other) in enumerate(zip(first, run(LIT))) if one != other}
-        run(PRESS, tile)
+        run(PRESS.format(tile))
         if changed != {tile, *near[tile]} - {None} or run(LIT) != first:
             yield f"tile {tile} changes {changed}"
     for tile in solution(near, first):
-        run(PRESS, tile)
-    told = run("return document.querySelector('b').textContent")
+        run(PRESS.format(tile))
+    told = run("document.querySelector('b').textContent")
     if any(run(LIT)) or not re.fullmatch(r"\d+ moves, done!", told):
         yield f"the game isn't solved: {told}"
 
@@ -65,12 +65,13 @@ def main():
             file.write(page)
         with open(os.path.join(folder, "board.js"), "w", encoding="utf-8") as file:
             subprocess.run(["node", os.path.join(top, "tests", "wasm", "board.mjs")], stdout=file, check=True)
-        browser = Chromium(folder)
+        browser = Chromium()
         try:
             browser.open(os.path.join(folder, "game.html"))
-            found = list(faults(browser.driver.execute_script))
+            found = list(faults(browser.js))
             if len(sys.argv) > 2:
-                browser.driver.save_screenshot(sys.argv[2])
+                with open(sys.argv[2], "wb") as file:
+                    file.write(browser.picture())
         finally:
             browser.close()
     for fault in found[:5]:

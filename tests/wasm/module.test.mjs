@@ -23,6 +23,14 @@ const refusalOf = (call) => {
   }
   return assert.fail("nothing was refused");
 };
+const lineOf = (call) => {
+  try {
+    call();
+    return "";
+  } catch (refusal) {
+    return refusal.line;
+  }
+};
 const near = (a, b, off = 1e-9) => assert.ok(Math.abs(a - b) <= off, `${a} is not ${b}`);
 const same = (a, b) => a.kind === b.kind && a.turn === b.turn && a.shift.join() === b.shift.join();
 const area = (polygon) =>
@@ -346,6 +354,34 @@ test("the tile at a point", () => {
   const top = { kind: 0, turn: 0, shift: [0, 0, 0, 0] };
   assert.equal(chair.locate(top, 1, [1, 1, 0, 0]).kind, 0);
   assert.equal(refusalOf(() => chair.locate(top, 1, [99, 0, 0, 0])), "8 Outside");
+});
+
+test("what locate and tileAt refuse says which argument is wrong, or the first value that is too far out", () => {
+  const top = { kind: 0, turn: 0, shift: [0, 0, 0, 0] }, far = 2 ** 20;
+  for (const wrong of [{ kind: 1 }, { turn: 4 }, { shift: [2 ** 24 + 1, 0, 0, 0] }]) {
+    assert.equal(refusalOf(() => chair.locate({ ...top, ...wrong }, 1, [0, 0, 0, 0])), "2 BadWords 1");
+  }
+  for (const depth of [65, -1]) assert.equal(refusalOf(() => chair.locate(top, depth, [0, 0, 0, 0])), "2 BadWords 2");
+  assert.equal(refusalOf(() => chair.locate(top, 1, [far + 1, 0, 0, 0])), "2 BadWords 3");
+  // a power of the factor, a corner of the supertile, the shift of a child, and a corner of one
+  assert.equal(refusalOf(() => chair.locate(top, 30, [0, 0, 0, 0])), `6 CoordLimit ${2 ** 25},0,0,0`);
+  const moved = (...shift) => ({ ...top, shift: [...shift, 0, 0] });
+  assert.equal(refusalOf(() => chair.locate(moved(2 ** 24, 0), 1, [0, 0, 0, 0])), `6 CoordLimit ${2 ** 24 + 2},2,0,0`);
+  for (const tiling of [chair, p2, p3, ab, halfhex]) {
+    const free = tiling.order > 6 ? 4 : 2;
+    const values = Array.from({ length: 40 }, (_, i) => [0, 1, 2, 3].map((k) => (k < free ? ((7919 * (i + k)) % 33 - 16) << 20 : 0)));
+    for (const [i, shift] of values.entries()) {
+      const line = lineOf(() => tiling.locate({ kind: 0, turn: 0, shift }, i % 24, shift.map((it) => Math.max(-far, Math.min(far, it)))));
+      const [, name, value] = line.split(" ");
+      if (name === "CoordLimit") assert.ok(value.split(",").some((it) => Math.abs(it) > 2 ** 24), line);
+      else assert.ok(["", "8 Outside"].includes(line), line);
+    }
+  }
+  assert.equal(refusalOf(() => p3.tileAt([far + 1, 0, 0, 0])), "2 BadWords 4");
+  assert.equal(refusalOf(() => p3.tileAt([0, 0, 0, 0], { base: "9:" })), "4 BadAddress UnknownKind 0");
+  const point = [-far, far, 0, 0], seeds = [...Array(200).keys()];
+  const seed = seeds.find((it) => lineOf(() => p3.tileAt(point, { seed: it })).startsWith("6 "));
+  assert.equal(refusalOf(() => p3.tileAt(point, { seed })), refusalOf(() => p3.window({ at: point, half: [1, 1], seed })));
 });
 
 test("many at once are as one by one", () => {

@@ -19,12 +19,10 @@ gcc -std=gnu11 -Wall -Wextra -O2 -I "$top/include" -o "$work/speed" "$tests/spee
     printf '%s\n' "document.querySelector('pre').textContent = (await measured(wasm, $rounds)) + '\\nEND\\n';"
     echo '</script>'
 } > "$work/page.html"
-python=python3
-"$python" -c 'import selenium' 2> /dev/null || python=/usr/bin/python3
 
 "$work/speed" "$rounds"
 node "$tests/speed.mjs" "$wasm" "$rounds"
 for browser in chromium firefox; do
-    "$python" "$tests/browser.py" $browser "$work/page.html" | sed -n "s/^.* tiles; /$browser: &/p" || echo "$browser: not measured"
+    python3 "$tests/browser.py" $browser "$work/page.html" | sed -n "s/^.* tiles; /$browser: &/p" || echo "$browser: not measured"
 done
 "$work/speed" "$rounds"

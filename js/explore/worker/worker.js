@@ -9,42 +9,47 @@ import { starsIn } from "./stars.js";
 import { boardOf, commandOf, pngOf, svgOf } from "./files.js";
 import { faultPicture, rulePicture } from "./rule-picture.js";
 
-let engine = null; // a promise of it
-const rules = new Map(); // by name: the text of the rule file, and the name by which the rule is built in
-const opened = new Map();
+let begin;
+const engine = new Promise((...settle) => (begin = settle));
+const opened = new Map(); // by name: promises of tilings
+const files = new Map(); // by name: the texts of their rule files
 
 /** The tiling that a look names. */
-async function drawableOf(name) {
-  if (!opened.has(name)) {
-    const { file, builtIn } = rules.get(name);
-    opened.set(name, new Drawable(name, (await engine).open(builtIn ?? file)));
-  }
-  return opened.get(name);
+const drawableOf = (name) => opened.get(name);
+
+/** The tiling of a rule: of a name that is built in, or a rule file. */
+async function drawableFrom(name, rule) {
+  return new Drawable(name, (await engine).open(rule));
+}
+
+/** Keeps a tiling while it is opened, and then. */
+function keep(name, file, drawable) {
+  opened.set(name, drawable);
+  files.set(name, file);
+  drawable.catch(() => opened.delete(name));
 }
 
 const questions = {
-  /** The engine as the page has it. */
-  begin({ engine: packed }) {
-    engine = bytesOf(packed).then((bytes) => Engine.load(bytes));
+  /** The engine as the page has compiled it, or why it could not. */
+  begin({ module, fault }) {
+    const [found, failed] = begin;
+    if (module) found(Engine.load(module));
+    else failed(fault);
   },
 
-  /** The rules that the page has. */
-  have({ rules: given }) {
-    for (const { name, ...rule } of given) rules.set(name, rule);
-  },
-
-  async open({ name }) {
+  /** A tiling of the page, and by which name its rule is built in, if it is. */
+  async open({ name, file, builtIn }) {
+    if (!opened.has(name)) keep(name, file, drawableFrom(name, builtIn ?? file));
     return (await drawableOf(name)).told();
   },
 
   /** A rule file of the reader's own: what `open` answers, or its fault with a picture. */
   async openFile({ name, bytes }) {
-    const file = new TextDecoder().decode(bytes);
+    const file = new TextDecoder().decode(bytes), drawable = drawableFrom(name, bytes);
     try {
-      const drawable = new Drawable(name, (await engine).open(bytes));
-      opened.set(name, drawable);
-      rules.set(name, { file });
-      return { told: drawable.told() };
+      const told = (await drawable).told();
+      keep(name, file, drawable);
+      return { told };
     } catch (refusal) {
       if (!refusal.status) throw refusal;
       const words = refusal.line.split(" ").slice(2);
@@ -54,7 +59,7 @@ const questions = {
 
   /** The picture of a rule. */
   rulePicture({ name }) {
-    return rulePicture(rules.get(name).file);
+    return rulePicture(files.get(name));
   },
 
   /** How many stars there are. */
@@ -103,12 +108,6 @@ const questions = {
         () => tiling.window({ ...look, at, half: [2, 2], addresses: false }))) ?? null;
   },
 };
-
-/** The bytes of a text in base 64, which may be packed by gzip. The browser's own reader is the fastest. */
-async function bytesOf({ text, isPacked }) {
-  const { body } = await fetch(`data:application/octet-stream;base64,${text.trim()}`);
-  return new Response(isPacked ? body.pipeThrough(new DecompressionStream("gzip")) : body).arrayBuffer();
-}
 
 function isAnswered(ask) {
   try {
