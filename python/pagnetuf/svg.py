@@ -1,6 +1,6 @@
-"""The parts of SVG that all pictures are made of, those of the package and those of the scripts in tools/, which
-need no numpy. Pictures of many tiles are plain texts, so that a file of tens of megabytes can be written as it is
-made."""
+"""The parts of SVG that all pictures are made of, those of the package and those of the scripts in tools/,
+which need no numpy. Pictures of many tiles are plain texts, so that a file of tens of megabytes can be
+written as it is made."""
 import cmath
 from typing import Iterable, List, Sequence, Union
 
@@ -51,7 +51,7 @@ def label(place: complex, text: object, **values: object) -> str:
 
 def circle(place: complex, radius: object, **values: object) -> str:
     """A circle around a place x + i y."""
-    return element("circle", cx=f"{place.real:.1f}", cy=f"{place.imag:.1f}", r=radius, **values)
+    return element("circle", "", cx=f"{place.real:.1f}", cy=f"{place.imag:.1f}", r=radius, **values)
 
 
 def arrow_head(tip: complex, along: complex, size: float, angle: float) -> List[complex]:
@@ -59,7 +59,9 @@ def arrow_head(tip: complex, along: complex, size: float, angle: float) -> List[
     return [tip, *(tip - along * cmath.rect(size, side) for side in (angle, -angle))]
 
 
-def root(box: Union[str, Sequence[float]], width: object, height: object, version: str = "", **more: object) -> str:
+def root(
+    box: Union[str, Sequence[float]], width: object, height: object, version: str = "", **more: object
+) -> str:
     """The begin of a picture of a box (x, y, width, height)."""
     of = f' version="{version}"' if version else ""
     view = box if isinstance(box, str) else " ".join(number(value) for value in box)
