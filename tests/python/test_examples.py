@@ -27,7 +27,7 @@ def test_an_example(library, tmp_path, name):
     ran = subprocess.run(
         [sys.executable, "-m", f"pagnetuf.examples.{name}"],
         cwd=tmp_path,
-        env=environment_of(),
+        env=environment_of(OPENBLAS_NUM_THREADS="1"),  # (several wait for each other on a busy machine)
         capture_output=True,
         text=True,
         check=False,
