@@ -30,6 +30,6 @@ for module in scipy networkx pandas matplotlib shapely ezdxf jsonschema hypothes
     "$tested" -c "import $module" 2> /dev/null || echo "$script: skipped in part: $module"
 done
 cd python || exit 1
-! has_modules pyflakes || "$python" -m pyflakes pagnetuf benchmarks examples ../tests/python || status=1
+! has_modules pyflakes || "$python" -m pyflakes pagnetuf benchmarks ../tests/python || status=1
 ! has_modules mypy || "$python" -m mypy --cache-dir /dev/null || status=1
 exit $status

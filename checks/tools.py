@@ -42,8 +42,8 @@ CALLS = {
     "refuse_memory.py": None,
     "uninstall.sh": None,
 }
-# scripts of packaging/ that make the page and the module: they have their own checks
-LEFT_OUT = {"make_page.py", "make_wasm.sh"}
+# scripts of packaging/ that make the page and the module, which have their own checks; and the package's own svg.py
+LEFT_OUT = {"make_page.py", "make_wasm.sh", "svg.py"}
 PLACES = {
     name: os.path.join(place, name)
     for place in FOLDERS

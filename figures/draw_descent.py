@@ -12,16 +12,16 @@ import sys
 sys.dont_write_bytecode = True
 TOP = os.path.dirname(os.path.dirname(os.path.abspath(__file__)))
 sys.path[1:1] = [os.path.join(TOP, "tools")]
-from command_line import Trouble, WrongWords, run  # noqa: E402
-from draw_walk import base_motion, line  # noqa: E402
-from draw_window import meets  # noqa: E402
+from command_line import Trouble, numbers, run  # noqa: E402
+from draw_walk import base_motion, frame_arguments, whole_picture  # noqa: E402
+from draw_window import meets, window_outline, words_below  # noqa: E402
 from rule_file import box, centre, load, sides  # noqa: E402
+from svg import path  # noqa: E402
 
 WIDE, HEAD, FOOT = 320, 10, 52
 BEYOND, WITHIN, ACROSS = range(3)
 FILL = ["#dfe4e9", "#f7e3b0", "white"]
 LINE = ["#aab4bd", "#8d7a45", "#e06c3a"]
-WINDOW = "#117a3d"
 WORDS = [
     ["Grey parts lie beyond one side:", "none of their tiles meets the window."],
     ["Yellow parts lie within: all their tiles do.", "The others are looked into."],
@@ -76,35 +76,26 @@ def draw(rule, kind, digits, half, levels):
     for number, level in enumerate(levels):
         seen = lambda z, x=number * WIDE + 12: complex(x + (z.real - left) * unit, HEAD + (high - z.imag) * unit)
         shown = sorted(parts(rule, top, depth, motion, bounds, level), key=lambda part: part[0] == ACROSS)
-        body += [line(seen, polygon, f'Z" fill="{FILL[how]}" stroke="{LINE[how]}" stroke-width="0.8"') for how, polygon in shown]
-        a, b, c, d = bounds
-        corners = [complex(a, b), complex(c, b), complex(c, d), complex(a, d)]
-        body.append(line(seen, corners, f'Z" fill="none" stroke="{WINDOW}" stroke-width="1.6" stroke-dasharray="5 3"'))
-        for row, text in enumerate(WORDS[number]):
-            body.append(f'<text x="{(number + 0.5) * WIDE:.1f}" y="{HEAD + tall + 22 + 17 * row:.1f}">{text}</text>')
-    size = f"{WIDE * 3} {HEAD + tall + FOOT:.0f}"
-    head = f'<svg xmlns="http://www.w3.org/2000/svg" viewBox="0 0 {size}" width="{size.split()[0]}" height="{size.split()[1]}" '
-    head += 'font-family="sans-serif" font-size="12" text-anchor="middle" stroke-linecap="round" stroke-linejoin="round">'
-    title = f"<title>{rule.name}: how the tiles of a window are found from the top down</title>"
-    return "\n".join([head, title, '<rect width="100%" height="100%" fill="white"/>', *body, "</svg>", ""])
+        for how, polygon in shown:
+            body.append(path(map(seen, polygon), fill=FILL[how], stroke=LINE[how], stroke_width=0.8))
+        body.append(window_outline(bounds, seen))
+        body += words_below(WORDS[number], number, tall)
+    size, round_lines = (WIDE * 3, f"{HEAD + tall + FOOT:.0f}"), {"stroke_linecap": "round", "stroke_linejoin": "round"}
+    title = f"{rule.name}: how the tiles of a window are found from the top down"
+    return whole_picture(size, title, body, 12, **round_lines)
 
 
 def main(words):
-    if len(words) != 5:
-        raise WrongWords
+    arguments = frame_arguments()
+    arguments.add_argument("half", type=numbers(2, float))
+    arguments.add_argument("levels", type=numbers(3, int))
+    options = arguments.parse_args(words)
+    if not options.digits:
+        arguments.error("there are no digits")
     try:
-        digits = [tuple(int(n) for n in digit.split("/")) for digit in words[2].split(",") if digit]
-        half = [float(n) for n in words[3].split(",")]
-        kind, levels = int(words[1]), [int(n) for n in words[4].split(",")]
-        if len(half) != 2 or len(levels) != 3 or not digits or any(len(digit) != 2 for digit in digits):
-            raise ValueError
-    except ValueError as fault:
-        raise WrongWords from fault
-    rule = load(words[0])
-    try:
-        print(draw(rule, kind, digits, half, levels), end="")
+        print(draw(load(options.file), options.kind, options.digits, options.half, options.levels), end="")
     except IndexError as fault:
-        raise Trouble(f"{words[0]} has no such kind or child") from fault
+        raise Trouble(f"{options.file} has no such kind or child") from fault
 
 
 if __name__ == "__main__":

@@ -9,8 +9,9 @@ import sys
 sys.dont_write_bytecode = True
 TOP = os.path.dirname(os.path.dirname(os.path.abspath(__file__)))
 sys.path[1:1] = [os.path.join(TOP, "tools")]
-from command_line import WrongWords, run  # noqa: E402
+from command_line import Arguments, run  # noqa: E402
 from rule_file import box, centre, cross, load, sides  # noqa: E402
+from svg import circle, element, label, path, root  # noqa: E402
 
 WIDE, HIGH, HEAD, SIZE = 300, 330, 30, 230
 INNER, OUTER, POINT, NEVER = "#1f5fa8", "#e06c3a", "#117a3d", "#c62828"
@@ -36,8 +37,7 @@ class Panel:
         return complex(self.x + (z.real - self.left) * self.scale, HEAD + (self.high - z.imag) * self.scale)
 
     def outline(self, polygon, colour, width):
-        corners = "L".join(f"{z.real:.1f} {z.imag:.1f}" for z in map(self.seen, polygon))
-        self.lines.append(f'<path d="M{corners}Z" fill="none" stroke="{colour}" stroke-width="{width}"/>')
+        self.lines.append(path(map(self.seen, polygon), fill="none", stroke=colour, stroke_width=width))
 
     def arrow(self, start, end, colour, inwards):
         """An arrow along an edge, moved to the left of it by so many pixels."""
@@ -45,13 +45,12 @@ class Panel:
         along = (b - a) / abs(b - a)
         a, b = a + along * 7 - along * 1j * inwards, b - along * 7 - along * 1j * inwards
         tip = [b, b - along * 8 + along * 3.5j, b - along * 8 - along * 3.5j]
-        head = "L".join(f"{z.real:.1f} {z.imag:.1f}" for z in tip)
-        self.lines.append(f'<path d="M{a.real:.1f} {a.imag:.1f}L{b.real:.1f} {b.imag:.1f}" stroke="{colour}" stroke-width="1.8"/>')
-        self.lines.append(f'<path d="M{head}Z" fill="{colour}"/>')
+        self.lines += [path([a, b], "", stroke=colour, stroke_width=1.8), path(tip, fill=colour)]
 
     def words(self, number):
         for row, text in enumerate(WORDS[number]):
-            self.lines.append(f'<text x="{number * WIDE + WIDE / 2:.1f}" y="{HEAD + SIZE + 30 + 18 * row}">{text}</text>')
+            x, y = f"{number * WIDE + WIDE / 2:.1f}", HEAD + SIZE + 30 + 18 * row
+            self.lines.append(element("text", text, x=x, y=y))
 
 
 def meets(edge, edges):
@@ -100,14 +99,14 @@ def cut(panel, tiles, inflated, edges):
     panel.outline(inflated, "#555", 2)
     point = centre(tiles[0]) - 0.31 - 0.17j
     a, b = panel.seen(point), panel.seen(complex(panel.right, point.imag))
-    panel.lines.append(f'<path d="M{a.real:.1f} {a.imag:.1f}H{b.real + 14:.1f}" stroke="{POINT}" stroke-width="1.2" stroke-dasharray="4 3"/>')
-    panel.lines.append(f'<circle cx="{a.real:.1f}" cy="{a.imag:.1f}" r="4" fill="{POINT}"/>')
+    panel.lines.append(path([a], f"H{b.real + 14:.1f}", stroke=POINT, stroke_width=1.2, stroke_dasharray="4 3"))
+    panel.lines.append(circle(a, 4, fill=POINT))
     for edge in edges:
         found = crossed(point, edge)
         if found:
             at, sign = panel.seen(found[0]), found[1]
             colour = INNER if meets(edge, edges) else OUTER
-            panel.lines.append(f'<text x="{at.real - 10 * sign:.1f}" y="{at.imag - 6:.1f}" fill="{colour}">{"+1" if sign > 0 else "−1"}</text>')
+            panel.lines.append(label(at - 10 * sign - 6j, "+1" if sign > 0 else "−1", fill=colour))
 
 
 def star(panel, inflated, edge):
@@ -115,20 +114,18 @@ def star(panel, inflated, edge):
     for vertex in inflated[2:-1]:
         panel.outline([inflated[0], vertex], "#999", 1)
     panel.outline(inflated, "#555", 2)
-    corner = panel.seen(inflated[0])
-    panel.lines.append(f'<circle cx="{corner.real:.1f}" cy="{corner.imag:.1f}" r="4" fill="#555"/>')
+    panel.lines.append(circle(panel.seen(inflated[0]), 4, fill="#555"))
     panel.arrow(*edge, OUTER, 6)
     panel.arrow(edge[1], edge[0], NEVER, 8)
 
 
 def main(words):
-    if len(words) != 1:
-        raise WrongWords
-    wide = WIDE * 4
-    head = f'<svg xmlns="http://www.w3.org/2000/svg" viewBox="0 0 {wide} {HIGH}" width="{wide}" height="{HIGH}" '
-    head += 'font-family="sans-serif" font-size="12" text-anchor="middle">'
-    title = "<title>Why the children of an inflated prototile dissect it</title>"
-    print("\n".join([head, title, f'<rect width="{wide}" height="{HIGH}" fill="white"/>', *draw(load(words[0])), "</svg>"]))
+    arguments = Arguments()
+    arguments.add_argument("file")
+    lines, wide = draw(load(arguments.parse_args(words).file)), WIDE * 4
+    head = root(f"0 0 {wide} {HIGH}", wide, HIGH, font_family="sans-serif", font_size=12, text_anchor="middle")
+    title = element("title", "Why the children of an inflated prototile dissect it")
+    print("\n".join([head, title, element("rect", width=wide, height=HIGH, fill="white"), *lines, "</svg>"]))
 
 
 if __name__ == "__main__":

@@ -13,8 +13,9 @@ import sys
 sys.dont_write_bytecode = True
 TOP = os.path.dirname(os.path.dirname(os.path.abspath(__file__)))
 sys.path[1:1] = [os.path.join(TOP, "tools")]
-from command_line import Trouble, WrongWords, run  # noqa: E402
+from command_line import Arguments, Trouble, run  # noqa: E402
 from rule_file import load, sides  # noqa: E402
+from svg import circle, element, label, path, root  # noqa: E402
 
 CELL, FOOT, UNIT, IN_ROW = 170, 32, 44, 4
 COLOURS = ["#1f5f7a", "#8ecae6", "#f4b860", "#3a9a9c"]  # of whole tiles, each by the lesser kind of its halves
@@ -52,26 +53,22 @@ def mirrored(polygon, edge):
     return [a + ((z - a) / along).conjugate() * along for z in polygon]
 
 
-def path(points, middle, style, end="Z"):
-    texts = [f"{middle.real + UNIT * z.real:.1f} {middle.imag - UNIT * z.imag:.1f}" for z in points]
-    return f'<path d="M{"L".join(texts)}{end}" {style}/>'
-
-
 def star(rule, tiles, middle):
     """The fills of a star, and the lines above them, about a point of the picture."""
+    seen = lambda z: middle + UNIT * z.conjugate()
     fills, lines, kinds, red = [], [], wholes(rule), (0, rule.mates[0])
     for kind, turn, shift, vertex in tiles:
         at = [rule.zeta**turn * corner + rule.point(shift) for corner in rule.kinds[kind].vertices]
         spot, (colour, edge) = at[vertex], kinds[kind]
         polygon = [corner - spot for corner in at]
-        parts = [(polygon, "")]
+        parts = [(polygon, None)]
         if edge is not None and vertex not in (edge, (edge + 1) % len(polygon)):
-            parts.insert(0, (mirrored(polygon, edge), ' fill-opacity="0.45"'))
+            parts.insert(0, (mirrored(polygon, edge), 0.45))
         for part, lighter in parts:
-            fills.append(path(part, middle, f'fill="{colour}"{lighter}'))
+            fills.append(path(map(seen, part), fill=colour, fill_opacity=lighter))
             types = rule.kinds[kind].edges
             lines += [(side, "red" if types[n] in red else "line") for n, side in enumerate(sides(part)) if n != edge]
-    return fills + [path(side, middle, f'class="{colour}"', "") for side, colour in lines]
+    return fills + [path(map(seen, side), "", class_=colour) for side, colour in lines]
 
 
 def draw(program, name, stars):
@@ -79,26 +76,30 @@ def draw(program, name, stars):
     rows = -(-len(stars) // IN_ROW)
     wide, high = CELL * min(IN_ROW, len(stars)), (CELL + FOOT) * rows
     out = [
-        f'<svg xmlns="http://www.w3.org/2000/svg" version="1.1" width="{wide}" height="{high}" viewBox="0 0 {wide} {high}">',
+        root(f"0 0 {wide} {high}", wide, high, "1.1"),
         '<style type="text/css">.line,.red{fill:none;stroke:#222;stroke-width:1.2;stroke-linecap:round}.red{stroke:#c0392b;stroke-width:2}'
         "text{font:15px sans-serif;text-anchor:middle}</style>",
-        f'<rect width="{wide}" height="{high}" fill="white"/>',
+        element("rect", width=wide, height=high, fill="white"),
     ]
-    for number, (label, address, vertex) in enumerate(stars):
+    for number, (name_below, address, vertex) in enumerate(stars):
         row, column = divmod(number, IN_ROW)
         middle = complex(CELL * (column + 0.5), (CELL + FOOT) * row + CELL / 2)
-        out.append(f"<g><title>{label}: star addr={address} vertex={vertex}</title>")
+        out.append(f"<g><title>{name_below}: star addr={address} vertex={vertex}</title>")
         out += star(rule, printed(program, name, address, vertex), middle)
-        out.append(f'<circle cx="{middle.real:.1f}" cy="{middle.imag:.1f}" r="3"/>')
-        out.append(f'<text x="{middle.real:.1f}" y="{middle.imag + CELL / 2 + 20:.1f}">{label}</text></g>')
+        out += [circle(middle, 3), label(middle + 1j * (CELL / 2 + 20), name_below) + "</g>"]
     return "\n".join([*out, "</svg>", ""])
 
 
 def main(words):
-    if len(words) < 5 or len(words) % 3 != 2:
-        raise WrongWords
-    stars = list(zip(words[2::3], words[3::3], words[4::3]))
-    print(draw(words[0], words[1], stars), end="")
+    arguments = Arguments()
+    arguments.add_argument("program")
+    arguments.add_argument("file")
+    arguments.add_argument("stars", nargs="+")
+    options = arguments.parse_args(words)
+    if len(options.stars) % 3:
+        arguments.error("each star has three arguments: NAME ADDRESS VERTEX")
+    stars = list(zip(options.stars[::3], options.stars[1::3], options.stars[2::3]))
+    print(draw(options.program, options.file, stars), end="")
 
 
 if __name__ == "__main__":

@@ -10,7 +10,8 @@ import sys
 sys.dont_write_bytecode = True
 TOP = os.path.dirname(os.path.dirname(os.path.abspath(__file__)))
 sys.path[1:1] = [os.path.join(TOP, "tools")]
-from command_line import WrongWords, run  # noqa: E402
+from command_line import Arguments, run  # noqa: E402
+from svg import arrow_head, circle, element, label, path, root  # noqa: E402
 
 UNIT, CELL, HEAD = 60, 270, 34
 NAMES = ["1", "ζ", "ζ²", "ζ³"]
@@ -20,11 +21,8 @@ POINTS = {"4": [2, 1, 0, 0], "6": [1, 1, 0, 0], "8": [1, 1, 0, -1], "10": [1, 0,
 def arrow(a, b, colour, width):
     """An arrow from a to b, in pixels."""
     along = (b - a) / abs(b - a)
-    head = [b, b - along * 9 * cmath.exp(0.4j), b - along * 9 * cmath.exp(-0.4j)]
-    points = "L".join(f"{z.real:.1f} {z.imag:.1f}" for z in head)
-    end = b - along * 6
-    line = f'<path d="M{a.real:.1f} {a.imag:.1f}L{end.real:.1f} {end.imag:.1f}" stroke="{colour}" stroke-width="{width}"/>'
-    return [line, f'<path d="M{points}Z" fill="{colour}"/>']
+    shaft = path([a, b - along * 6], "", stroke=colour, stroke_width=width)
+    return [shaft, path(arrow_head(b, along, 9, 0.4), fill=colour)]
 
 
 def term(a, name):
@@ -39,15 +37,15 @@ def panel(order, point, x):
     zeta = cmath.exp(2j * cmath.pi / order)
     middle = complex(x + 0.36 * CELL, HEAD + 100)
     seen = lambda z: middle + z.conjugate() * UNIT
-    lines = [f'<text x="{x + CELL / 2:.1f}" y="20" font-size="14" font-weight="bold">order {order}</text>']
-    lines.append(f'<circle cx="{middle.real:.1f}" cy="{middle.imag:.1f}" r="{UNIT}" fill="none" stroke="#ccc"/>')
+    across = f"{x + CELL / 2:.1f}"
+    lines = [element("text", f"order {order}", x=across, y=20, font_size=14, font_weight="bold")]
+    lines.append(circle(middle, UNIT, fill="none", stroke="#ccc"))
     for k in range(order):
-        tip = seen(zeta**k)
-        lines.append(f'<circle cx="{tip.real:.1f}" cy="{tip.imag:.1f}" r="2" fill="#999"/>')
+        lines.append(circle(seen(zeta**k), 2, fill="#999"))
     for k in range(2 if order in (4, 6) else 4):
         lines += arrow(seen(0), seen(zeta**k), "#1f5fa8", 1.6)
         at = seen(zeta**k * 1.24) + 4j if k else seen(0.8) + 16j
-        lines.append(f'<text x="{at.real:.1f}" y="{at.imag:.1f}" fill="#1f5fa8">{NAMES[k]}</text>')
+        lines.append(label(at, NAMES[k], fill="#1f5fa8"))
     at = 0
     for k, a in enumerate(point):
         for _ in range(abs(a)):
@@ -56,21 +54,21 @@ def panel(order, point, x):
             at += step
     words = " + ".join(term(a, NAMES[k]) for k, a in enumerate(point) if a).replace("+ -", "- ")
     what = f"{','.join(map(str, point))}: {words}"
-    lines.append(f'<circle cx="{seen(at).real:.1f}" cy="{seen(at).imag:.1f}" r="4" fill="#e06c3a"/>')
-    lines.append(f'<text x="{x + CELL / 2:.1f}" y="{HEAD + 192}" fill="#b04a1c">{what}</text>')
-    lines.append(f'<text x="{x + CELL / 2:.1f}" y="{HEAD + 210}" fill="#b04a1c">x = {round(at.real, 3) + 0.0:.3f}, y = {round(at.imag, 3) + 0.0:.3f}</text>')
-    return lines
+    lines.append(circle(seen(at), 4, fill="#e06c3a"))
+    place = f"x = {round(at.real, 3) + 0.0:.3f}, y = {round(at.imag, 3) + 0.0:.3f}"
+    below = ((HEAD + 192, what), (HEAD + 210, place))
+    return lines + [element("text", text, x=across, y=y, fill="#b04a1c") for y, text in below]
 
 
 def main(words):
-    if not words or not set(words) <= set(POINTS):
-        raise WrongWords
-    wide, high = CELL * len(words), HEAD + 222
-    body = [line for i, order in enumerate(words) for line in panel(int(order), POINTS[order], i * CELL)]
-    head = f'<svg xmlns="http://www.w3.org/2000/svg" viewBox="0 0 {wide} {high}" width="{wide}" height="{high}" '
-    head += 'font-family="sans-serif" font-size="13" text-anchor="middle">'
-    title = "<title>The steps of each order, and a point reached by them</title>"
-    print("\n".join([head, title, f'<rect width="{wide}" height="{high}" fill="white"/>', *body, "</svg>"]))
+    arguments = Arguments()
+    arguments.add_argument("orders", nargs="+", choices=POINTS)
+    orders = arguments.parse_args(words).orders
+    wide, high = CELL * len(orders), HEAD + 222
+    body = [line for i, order in enumerate(orders) for line in panel(int(order), POINTS[order], i * CELL)]
+    head = root(f"0 0 {wide} {high}", wide, high, font_family="sans-serif", font_size=13, text_anchor="middle")
+    title = element("title", "The steps of each order, and a point reached by them")
+    print("\n".join([head, title, element("rect", width=wide, height=high, fill="white"), *body, "</svg>"]))
 
 
 if __name__ == "__main__":

@@ -5,15 +5,15 @@
 
 The base is a tile of that kind. DIGITS are those that it grows, as in 3/0,1/0, the finest first. PATH has the numbers of
 the edges crossed, as in 0,3. The base stays where it is, and so does every tile found."""
-import cmath
 import os
 import sys
 
 sys.dont_write_bytecode = True
 TOP = os.path.dirname(os.path.dirname(os.path.abspath(__file__)))
 sys.path[1:1] = [os.path.join(TOP, "tools")]
-from command_line import Trouble, WrongWords, run  # noqa: E402
+from command_line import Arguments, Trouble, count, digits, run  # noqa: E402
 from rule_file import box, centre, load, sides  # noqa: E402
+from svg import arrow_head, element, path, root  # noqa: E402
 
 HEAD, UNIT, ROOM = 28, 13, 26
 BASE, NEW, OLD, WAY = "#f3b08a", "#eef2f6", "#cfdfee", "#b04a1c"
@@ -79,19 +79,12 @@ def walks(rule, kind, digits, path):
     return [*found, (frame(rule, kind, digits[:depth]), way, None)]
 
 
-def line(seen, points, style):
-    return f'<path d="M{"L".join(f"{z.real:.1f} {z.imag:.1f}" for z in map(seen, points))}{style}/>'
-
-
-def arrow(seen, a, b, dashes=""):
+def arrow(seen, a, b, dashes=None):
     """An arrow from a to b."""
     a, b = seen(a), seen(b)
     along = (b - a) / abs(b - a)
-    tip = [b, b - along * 7 * cmath.exp(0.45j), b - along * 7 * cmath.exp(-0.45j)]
-    end = b - along * 5
-    head = "L".join(f"{z.real:.1f} {z.imag:.1f}" for z in tip)
-    shaft = f'<path d="M{a.real:.1f} {a.imag:.1f}L{end.real:.1f} {end.imag:.1f}" stroke="{WAY}" stroke-width="2"{dashes}/>'
-    return [shaft, f'<path d="M{head}Z" fill="{WAY}"/>']
+    shaft = path([a, b - along * 5], "", stroke=WAY, stroke_width=2, stroke_dasharray=dashes)
+    return [shaft, path(arrow_head(b, along, 7, 0.45), fill=WAY)]
 
 
 def panel(number, shown, seen, known):
@@ -100,14 +93,14 @@ def panel(number, shown, seen, known):
     lines = []
     for _, polygon in tiles:
         is_old = any(abs(centre(polygon) - at) < 1e-6 for at in known)
-        lines.append(line(seen, polygon, f'Z" fill="{OLD if is_old else NEW}" stroke="#8594a3" stroke-width="0.8"'))
-    lines.append(line(seen, way[0][1], f'Z" fill="{BASE}" stroke="#333" stroke-width="1.6"'))
+        lines.append(path(map(seen, polygon), fill=OLD if is_old else NEW, stroke="#8594a3", stroke_width=0.8))
+    lines.append(path(map(seen, way[0][1]), fill=BASE, stroke="#333", stroke_width=1.6))
     for before, after in zip(way, way[1:]):
         lines += arrow(seen, centre(before[1]), centre(after[1]))
     if outside:
         middle, at = (outside[0] + outside[1]) / 2, centre(way[-1][1])
         out = (outside[1] - outside[0]) * -1j
-        lines += arrow(seen, at, middle + out / abs(out) * 0.7, ' stroke-dasharray="4 3"')
+        lines += arrow(seen, at, middle + out / abs(out) * 0.7, "4 3")
     return lines
 
 
@@ -120,31 +113,42 @@ def draw(rule, kind, digits, path):
     for number, each in enumerate(shown):
         seen = lambda z, x=number * wide + ROOM / 2: complex(x + (z.real - left) * UNIT, HEAD + (high - z.imag) * UNIT)
         known = [centre(polygon) for _, polygon in shown[number - 1][0]] if number else []
-        body.append(f'<text x="{(number + 0.5) * wide:.1f}" y="18">depth {number}</text>')
+        body.append(element("text", f"depth {number}", x=f"{(number + 0.5) * wide:.1f}", y=18))
         body += panel(number, each, seen, known)
-    size = f"{len(shown) * wide:.0f} {HEAD + tall + 10:.0f}"
-    head = f'<svg xmlns="http://www.w3.org/2000/svg" viewBox="0 0 {size}" width="{size.split()[0]}" height="{size.split()[1]}" '
-    head += 'font-family="sans-serif" font-size="13" text-anchor="middle" stroke-linejoin="round">'
-    title = f"<title>{rule.name}: a walk in a supertile that grows</title>"
-    return "\n".join([head, title, '<rect width="100%" height="100%" fill="white"/>', *body, "</svg>", ""])
+    size = f"{len(shown) * wide:.0f}", f"{HEAD + tall + 10:.0f}"
+    return whole_picture(size, f"{rule.name}: a walk in a supertile that grows", body, 13, stroke_linejoin="round")
+
+
+def whole_picture(size, title, body, font_size, **look):
+    """The text of the SVG file of a width and a height."""
+    look = {"font_family": "sans-serif", "font_size": font_size, "text_anchor": "middle", **look}
+    head = root(f"0 0 {size[0]} {size[1]}", *size, **look)
+    white = element("rect", width="100%", height="100%", fill="white")
+    return "\n".join([head, element("title", title), white, *body, "</svg>", ""])
+
+
+def frame_arguments():
+    """The first arguments of each script that draws a frame: the rule file, and the frame's kind and digits."""
+    arguments = Arguments()
+    arguments.add_argument("file")
+    arguments.add_argument("kind", type=count)
+    arguments.add_argument("digits", type=digits)
+    return arguments
+
+
+def edges_of(word):
+    """A type of argparse: the edges of a walk."""
+    return [count(edge) for edge in word.split(",") if edge]
 
 
 def main(words):
-    if len(words) != 4:
-        raise WrongWords
+    arguments = frame_arguments()
+    arguments.add_argument("path", type=edges_of)
+    options = arguments.parse_args(words)
     try:
-        digits = [tuple(int(n) for n in digit.split("/")) for digit in words[2].split(",") if digit]
-        path = [int(edge) for edge in words[3].split(",") if edge]
-        kind = int(words[1])
-        if any(len(digit) != 2 for digit in digits):
-            raise ValueError
-    except ValueError as fault:
-        raise WrongWords from fault
-    rule = load(words[0])
-    try:
-        print(draw(rule, kind, digits, path), end="")
+        print(draw(load(options.file), options.kind, options.digits, options.path), end="")
     except IndexError as fault:
-        raise Trouble(f"{words[0]} has no such kind, child or edge") from fault
+        raise Trouble(f"{options.file} has no such kind, child or edge") from fault
 
 
 if __name__ == "__main__":

@@ -12,9 +12,10 @@ import sys
 sys.dont_write_bytecode = True
 TOP = os.path.dirname(os.path.dirname(os.path.abspath(__file__)))
 sys.path[1:1] = [os.path.join(TOP, "tools")]
-from command_line import Trouble, WrongWords, run  # noqa: E402
-from draw_walk import frame, line  # noqa: E402
+from command_line import Trouble, count, numbers, run  # noqa: E402
+from draw_walk import frame, frame_arguments, whole_picture  # noqa: E402
 from rule_file import box, centre, load, sides  # noqa: E402
+from svg import label, path  # noqa: E402
 
 WIDE, HEAD, FOOT = 320, 10, 52
 FOUND, OPEN, CHAIN, WINDOW, REST = "#f7e3b0", "#e06c3a", "#1f5fa8", "#117a3d", "#f4f6f8"
@@ -66,20 +67,32 @@ def search(tiles, start, bounds):
 
 def panel(number, tiles, state, bounds, seen):
     found, waiting = state
-    lines = [line(seen, polygon, f'Z" fill="{FOUND if i in found else REST}" stroke="#c3ccd4" stroke-width="0.7"') for i, (_, polygon) in enumerate(tiles)]
+    look = {"stroke": "#c3ccd4", "stroke_width": 0.7}
+    lines = [path(map(seen, polygon), fill=FOUND if i in found else REST, **look) for i, (_, polygon) in enumerate(tiles)]
     edges = {(i, e): pair for i in found for e, pair in enumerate(sides(tiles[i][1]))}
     met = {(round(b.real, 3), round(b.imag, 3), round(a.real, 3), round(a.imag, 3)) for a, b in edges.values()}
     for key, (a, b) in edges.items():
         if key in waiting:
-            lines.append(line(seen, [a, b], f'" fill="none" stroke="{OPEN}" stroke-width="2.6"'))
+            ink, width = OPEN, 2.6
         elif (round(a.real, 3), round(a.imag, 3), round(b.real, 3), round(b.imag, 3)) not in met:
-            lines.append(line(seen, [a, b], f'" fill="none" stroke="{CHAIN}" stroke-width="2"'))
+            ink, width = CHAIN, 2
         else:
-            lines.append(line(seen, [a, b], '" fill="none" stroke="#8d7a45" stroke-width="0.9"'))
+            ink, width = "#8d7a45", 0.9
+        lines.append(path([seen(a), seen(b)], "", fill="none", stroke=ink, stroke_width=width))
+    return [*lines, window_outline(bounds, seen)]
+
+
+def window_outline(bounds, seen):
+    """The sides of a window."""
     left, low, right, high = bounds
     corners = [complex(left, low), complex(right, low), complex(right, high), complex(left, high)]
-    lines.append(line(seen, corners, f'Z" fill="none" stroke="{WINDOW}" stroke-width="1.6" stroke-dasharray="5 3"'))
-    return lines
+    return path(map(seen, corners), fill="none", stroke=WINDOW, stroke_width=1.6, stroke_dasharray="5 3")
+
+
+def words_below(words, number, tall):
+    """The lines of text below a panel."""
+    for row, text in enumerate(words):
+        yield label(complex((number + 0.5) * WIDE, HEAD + tall + 22 + 17 * row), text)
 
 
 def draw(rule, kind, digits, half, steps):
@@ -105,31 +118,20 @@ def draw(rule, kind, digits, half, steps):
         kept = [names[id(polygon)] for _, polygon in near]
         state = [kept.index(i) for i in found], [(kept.index(i), e) for i, e in waiting]
         body += panel(number, near, state, bounds, seen)
-        for row, text in enumerate(WORDS[number]):
-            body.append(f'<text x="{(number + 0.5) * WIDE:.1f}" y="{HEAD + tall + 22 + 17 * row:.1f}">{text}</text>')
-    size = f"{WIDE * 3} {HEAD + tall + FOOT:.0f}"
-    head = f'<svg xmlns="http://www.w3.org/2000/svg" viewBox="0 0 {size}" width="{size.split()[0]}" height="{size.split()[1]}" '
-    head += 'font-family="sans-serif" font-size="12" text-anchor="middle" stroke-linecap="round" stroke-linejoin="round">'
-    title = f"<title>{rule.name}: how the tiles of a window are found</title>"
-    return "\n".join([head, title, '<rect width="100%" height="100%" fill="white"/>', *body, "</svg>", ""])
+        body += words_below(WORDS[number], number, tall)
+    size, round_lines = (WIDE * 3, f"{HEAD + tall + FOOT:.0f}"), {"stroke_linecap": "round", "stroke_linejoin": "round"}
+    return whole_picture(size, f"{rule.name}: how the tiles of a window are found", body, 12, **round_lines)
 
 
 def main(words):
-    if len(words) != 5:
-        raise WrongWords
+    arguments = frame_arguments()
+    arguments.add_argument("half", type=numbers(2, float))
+    arguments.add_argument("steps", type=count)
+    options = arguments.parse_args(words)
     try:
-        digits = [tuple(int(n) for n in digit.split("/")) for digit in words[2].split(",") if digit]
-        half = [float(n) for n in words[3].split(",")]
-        kind, steps = int(words[1]), int(words[4])
-        if len(half) != 2 or any(len(digit) != 2 for digit in digits):
-            raise ValueError
-    except ValueError as fault:
-        raise WrongWords from fault
-    rule = load(words[0])
-    try:
-        print(draw(rule, kind, digits, half, steps), end="")
+        print(draw(load(options.file), options.kind, options.digits, options.half, options.steps), end="")
     except IndexError as fault:
-        raise Trouble(f"{words[0]} has no such kind, child or edge") from fault
+        raise Trouble(f"{options.file} has no such kind, child or edge") from fault
 
 
 if __name__ == "__main__":

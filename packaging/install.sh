@@ -134,7 +134,7 @@ fi
 put_all python/pagnetuf "$packages/pagnetuf"
 put_all rules share/tiling/rules
 for name in cures.sh words.awk paint.py corners.py draw_rule.py draw_patch.py draw_page.py page.html command_line.py rule_file.py \
-    toml_document.py older_toml.py; do
+    svg.py toml_document.py older_toml.py; do
     mode=644
     [ ! -x "$top/tools/$name" ] || mode=755
     put $mode "$top/tools/$name" "share/tiling/tools/$name"

@@ -8,7 +8,7 @@
 import sys
 
 sys.dont_write_bytecode = True
-from command_line import Trouble, WrongWords, run  # noqa: E402
+from command_line import Arguments, Trouble, run  # noqa: E402
 from rule_file import load  # noqa: E402
 
 
@@ -31,9 +31,9 @@ def coordinate(x):
 
 
 def main(words):
-    if len(words) != 1:
-        raise WrongWords
-    rule = load(words[0])
+    arguments = Arguments()
+    arguments.add_argument("file")
+    rule = load(arguments.parse_args(words).file)
     tiles = [corners(rule, line) for line in sys.stdin]
     print("\n\n".join("\n".join(f"{coordinate(z.real)} {coordinate(z.imag)}" for z in tile) for tile in tiles))
 

@@ -10,7 +10,7 @@ import re
 import sys
 
 sys.dont_write_bytecode = True
-from command_line import Trouble, WrongWords, run  # noqa: E402
+from command_line import Arguments, Trouble, run  # noqa: E402
 
 HEAD = re.compile(r'<svg [^>]*viewBox="[^"]*" width="(\d+)" height="(\d+)">\n<title>([^<]*)</title>\n')
 COLOUR = re.compile(r"^(\.[a-z]\d+)(\{fill:#\w+;stroke:#\w+\})$", re.M)
@@ -40,9 +40,10 @@ def figure(path):
     return f'<figure id="{name}" data-name="{name}" data-rule="{rule}" data-words="{words}">\n{body}</figure>', colours
 
 
-def main(paths):
-    if not paths:
-        raise WrongWords
+def main(words):
+    arguments = Arguments()
+    arguments.add_argument("pictures", nargs="+")
+    paths = arguments.parse_args(words).pictures
     with open(os.path.join(os.path.dirname(os.path.abspath(__file__)), "page.html"), encoding="utf-8") as file:
         page = file.read()
     figures = [figure(path) for path in paths]

@@ -18,8 +18,9 @@ colour it again."""
 import sys
 
 sys.dont_write_bytecode = True
-from command_line import Trouble, WrongWords, run  # noqa: E402
+from command_line import Arguments, Trouble, count, numbers, run  # noqa: E402
 from rule_file import box, centre, cross, load, sides  # noqa: E402
+from svg import element, joined_spots, label, path, root  # noqa: E402
 
 KINDS = ["#3f6c9f", "#6f9ccb", "#e0a344", "#f1cf8e", "#8fae5d", "#c9dba6", "#b5536b", "#e3a8b6"]
 SHAPES = ["#4a7fb5", "#ecc06a", "#8fae5d", "#b5536b"]
@@ -72,114 +73,121 @@ def label_place(polygon):
     return at + (at - polygon[0]) * 2 if inner else at
 
 
-def points(polygon):
-    return "L".join(f"{z.real:.1f} {z.imag:.1f}" for z in polygon)
+def style_of(rule, options):
+    """The lines of the style sheet: a colour for each class."""
+    shape = whole_kinds(rule)
+    shapes, rules = sorted(set(shape)), []
+    for i in range(rule.order if options.colour == "turn" else len(rule.kinds)):
+        if options.colour == "turn":
+            rules.append(f".t{i}{{fill:{TURNS[i * len(TURNS) // rule.order]}}}")
+        elif options.colour == "shape":
+            rules.append(f".k{i}{{fill:{SHAPES[shapes.index(shape[i]) % len(SHAPES)]}}}")
+        elif options.colour == "kind":
+            rules.append(f".k{i}{{fill:{KINDS[i % len(KINDS)]}}}")
+    ink = "#333" if options.label else "#222"
+    yield f'<style type="text/css">path{{stroke-linejoin:round;stroke-linecap:round}} .l{{fill:none;stroke:{ink};stroke-width:1.1}}'
+    yield " ".join(rules) + "</style>"
+
+
+def window_of(rule, outline, options):
+    """What is drawn of a supertile, as its least x and y, and its greatest."""
+    if not options.window:
+        return box(outline)
+    wide, high = options.window
+    middle = complex(*options.centre) if options.centre else centre(outline)
+    return middle.real - wide / 2, middle.imag - high / 2, middle.real + wide / 2, middle.imag + high / 2
+
+
+class Picture:
+    """The tiles of a supertile, in pixels: their paths, their lines, and their numbers."""
+
+    def __init__(self, rule, options, unit):
+        self.rule, self.options, self.unit = rule, options, unit
+        self.tiles, self.lines, self.labels = [], [], []
+        glued = set(rule.glue) | {rule.mates[glue] for glue in rule.glue}
+        self.hidden = glued if options.whole else set()
+
+    def placed(self, kind, turn, shift, level=0):
+        """The corners of a tile, or of its supertile of a level."""
+        rule = self.rule
+        corners = (rule.zeta**turn * z * rule.factor**level + shift for z in rule.kinds[kind].vertices)
+        return [z.conjugate() * self.unit for z in corners]
+
+    def put(self, tile):
+        """Adds a tile."""
+        kind, turn, shift, digits = tile
+        polygon, name, options, look = self.placed(kind, turn, shift), address(kind, digits), self.options, {}
+        if name in options.mark:
+            look = {"style": f"fill:{MARKED[options.mark.index(name) % len(MARKED)]}"}
+        elif options.colour == "child" and digits:
+            look = {"fill": PALE[digits[-1][0] % len(PALE)]}
+        d = f"M{joined_spots(polygon)}Z"
+        self.tiles.append(element("path", element("title", name), class_=f"k{kind} t{turn}", **look, d=d))
+        shown = [pair for pair, number in zip(sides(polygon), self.rule.kinds[kind].edges) if number not in self.hidden]
+        self.lines += [d] if len(shown) == len(polygon) else [f"M{joined_spots(pair)}" for pair in shown]
+        if options.label:
+            bold = {"font_weight": "bold"} if "style" in look else {}
+            numbers_of_children = ",".join(str(child) for child, _ in digits)
+            self.labels.append(label(label_place(polygon) + 4j, numbers_of_children, font_size=12, **bold))
 
 
 def draw(rule, top, depth, options):
     """The picture as the text of an SVG file."""
     outline = [z * rule.factor**depth for z in rule.kinds[top].vertices]
-    window = box(outline)
-    if options["window"]:
-        w, h = options["window"]
-        mid = options["centre"] or centre(outline)
-        window = (mid.real - w / 2, mid.imag - h / 2, mid.real + w / 2, mid.imag + h / 2)
-    tiles = tiles_of(rule, top, depth, window)
-    unit = options["width"] / (window[2] - window[0])
-    seen = lambda z: z.conjugate() * unit
-    edge = 0 if options["window"] else 4
+    window = window_of(rule, outline, options)
+    unit, edge = options.width / (window[2] - window[0]), 0 if options.window else 4
     left, up = window[0] * unit - edge, -window[3] * unit - edge
     wide, high = (window[2] - window[0]) * unit + 2 * edge, (window[3] - window[1]) * unit + 2 * edge
-    what = f"{rule.name}: {'tiles in' if options['window'] else 'all tiles of'} the supertile of kind {top} and depth {depth}"
-    whole, shape = options["whole"], whole_kinds(rule)
-    shapes = sorted(set(shape))
-    size = f'viewBox="{left:.1f} {up:.1f} {wide:.1f} {high:.1f}" width="{wide:.0f}" height="{high:.0f}"'
-    body = [f'<svg xmlns="http://www.w3.org/2000/svg" {size} font-family="sans-serif" text-anchor="middle">', f"<title>{what}</title>"]
-    rules = []
-    for i in range(rule.order if options["colour"] == "turn" else len(rule.kinds)):
-        if options["colour"] == "turn":
-            rules.append(f".t{i}{{fill:{TURNS[i * len(TURNS) // rule.order]}}}")
-        elif options["colour"] == "shape":
-            rules.append(f".k{i}{{fill:{SHAPES[shapes.index(shape[i]) % len(SHAPES)]}}}")
-        elif options["colour"] == "kind":
-            rules.append(f".k{i}{{fill:{KINDS[i % len(KINDS)]}}}")
-    line = "#333" if options["label"] else "#222"
-    body.append(f'<style type="text/css">path{{stroke-linejoin:round;stroke-linecap:round}} .l{{fill:none;stroke:{line};stroke-width:1.1}}')
-    body.append(" ".join(rules) + "</style>")
-    if not options["window"]:
-        body.append(f'<rect x="{left:.1f}" y="{up:.1f}" width="{wide:.1f}" height="{high:.1f}" fill="white"/>')
-    lines, labels = [], []
-    hidden = set(rule.glue) | {rule.mates[glue] for glue in rule.glue} if whole else set()
-    for kind, turn, shift, digits in tiles:
-        polygon = [seen(rule.zeta**turn * z + shift) for z in rule.kinds[kind].vertices]
-        name = address(kind, digits)
-        extra = ""
-        if name in options["mark"]:
-            extra = f' style="fill:{MARKED[options["mark"].index(name) % len(MARKED)]}"'
-        elif options["colour"] == "child" and digits:
-            extra = f' fill="{PALE[digits[-1][0] % len(PALE)]}"'
-        body.append(f'<path class="k{kind} t{turn}"{extra} d="M{points(polygon)}Z"><title>{name}</title></path>')
-        shown = [pair for pair, number in zip(sides(polygon), rule.kinds[kind].edges) if number not in hidden]
-        if len(shown) == len(polygon):
-            lines.append(f"M{points(polygon)}Z")
-        else:
-            lines += [f"M{points(pair)}" for pair in shown]
-        if options["label"]:
-            bold = ' font-weight="bold"' if extra.startswith(" style") else ""
-            at = label_place(polygon)
-            labels.append(f'<text x="{at.real:.1f}" y="{at.imag + 4:.1f}" font-size="12"{bold}>{",".join(str(c) for c, _ in digits)}</text>')
-    body.append(f'<path class="l" d="{"".join(lines)}"/>')
-    levels = [(level, 1.3 + 0.8 * level) for level in options["outline"]] + ([(depth - 1, 2.6)] if options["label"] else [])
+    view, sizes = f"{left:.1f} {up:.1f} {wide:.1f} {high:.1f}", (f"{wide:.0f}", f"{high:.0f}")
+    what = f"{rule.name}: {'tiles in' if options.window else 'all tiles of'} the supertile of kind {top} and depth {depth}"
+    body = [root(view, *sizes, font_family="sans-serif", text_anchor="middle"), element("title", what)]
+    body += style_of(rule, options)
+    if not options.window:
+        box_of = dict(zip(("x", "y", "width", "height"), view.split()))
+        body.append(element("rect", **box_of, fill="white"))
+    picture = Picture(rule, options, unit)
+    for tile in tiles_of(rule, top, depth, window):
+        picture.put(tile)
+    body += [*picture.tiles, element("path", class_="l", d="".join(picture.lines))]
+    levels = [(level, 1.3 + 0.8 * level) for level in options.outline] + ([(depth - 1, 2.6)] if options.label else [])
     for level, thick in levels:
         for kind, turn, shift, _ in tiles_of(rule, top, depth, window, level):
-            big = [seen(rule.zeta**turn * z * rule.factor**level + shift) for z in rule.kinds[kind].vertices]
-            body.append(f'<path d="M{points(big)}Z" fill="none" stroke="#222" stroke-width="{thick:.1f}"/>')
-    return "\n".join(body + labels + ["</svg>", ""])
+            big = picture.placed(kind, turn, shift, level)
+            body.append(path(big, fill="none", stroke="#222", stroke_width=f"{thick:.1f}"))
+    return "\n".join([*body, *picture.labels, "</svg>", ""])
 
 
-def numbers(word, count, form):
-    try:
-        found = [form(part) for part in word.split(",")]
-    except ValueError:
-        found = []
-    if len(found) != count:
-        raise Trouble(f"'{word}' isn't {count} number{'s' * (count > 1)}")
-    return found
+def given(words):
+    """The options of a call."""
+    arguments = Arguments()
+    add = arguments.add_argument
+    add("--colour", choices=("kind", "turn", "child", "shape"), default="kind")
+    add("--window", type=numbers(2, float))
+    add("--centre", type=numbers(2, float))
+    add("--width", type=count, default=800)
+    add("--outline", type=count, action="append", default=[])
+    add("--mark", action="append", default=[])
+    add("--whole", action="store_true")
+    add("--label", action="store_true")
+    add("file")
+    add("kind", type=count)
+    add("depth", type=count)
+    return arguments.parse_args(words)
 
 
 def main(words):
-    options = {"colour": "kind", "whole": False, "window": None, "centre": None, "label": False, "mark": [], "outline": [], "width": 800}
-    while words and words[0].startswith("--"):
-        option = words[0][2:]
-        if option in ("whole", "label"):
-            options[option], words = True, words[1:]
-            continue
-        if option not in options or len(words) < 2:
-            raise WrongWords
-        value, words = words[1], words[2:]
-        if option == "window":
-            value = numbers(value, 2, float)
-        elif option == "centre":
-            value = complex(*numbers(value, 2, float))
-        elif option in ("width", "outline"):
-            value = numbers(value, 1, int)[0]
-        elif option == "colour" and value not in ("kind", "turn", "child", "shape"):
-            raise Trouble(f"'{value}' is none of kind, turn, child, shape")
-        options[option] = options[option] + [value] if option in ("mark", "outline") else value
-    if len(words) != 3:
-        raise WrongWords
-    rule = load(words[0])
-    kind, depth = numbers(words[1], 1, int)[0], numbers(words[2], 1, int)[0]
-    if not 0 <= kind < len(rule.kinds) or depth < 0:
-        raise Trouble(f"{words[0]} has the kinds 0 to {len(rule.kinds) - 1}, and a depth is at least 0")
-    if not all(0 <= level <= depth for level in options["outline"]):
+    options = given(words)
+    rule, depth = load(options.file), options.depth
+    if not options.kind < len(rule.kinds):
+        raise Trouble(f"{options.file} has the kinds 0 to {len(rule.kinds) - 1}")
+    if not all(level <= depth for level in options.outline):
         raise Trouble(f"the levels of a supertile of depth {depth} are 0 to {depth}")
-    if not options["window"] and abs(rule.factor) ** (2 * depth) > 50000:
+    if not options.window and abs(rule.factor) ** (2 * depth) > 50000:
         raise Trouble("so deep a supertile has too many tiles for one picture: give --window W,H")
     try:
-        print(draw(rule, kind, depth, options), end="")
+        print(draw(rule, options.kind, depth, options), end="")
     except (IndexError, TypeError, ValueError, ZeroDivisionError) as fault:
-        raise Trouble(f"{words[0]} can't be drawn ({fault}); `./tiling check rule=- < FILE` names its fault") from fault
+        raise Trouble(f"{options.file} can't be drawn ({fault}); `./tiling check rule=- < FILE` names its fault") from fault
 
 
 if __name__ == "__main__":

@@ -17,8 +17,9 @@ import os
 import sys
 
 sys.dont_write_bytecode = True
-from command_line import Trouble, WrongWords, run  # noqa: E402
+from command_line import Arguments, Trouble, run  # noqa: E402
 from rule_file import area, box, centre, cross, load, sides  # noqa: E402
+from svg import arrow_head, circle, element, label, path, root  # noqa: E402
 
 GAP, PAD, HEAD = 52, 24, 20
 RED = "#d00000"
@@ -30,24 +31,18 @@ def fill(kind):
     return FILLS[kind] if kind < len(FILLS) else f"hsl({kind * 67 % 360} 45% 86%)"
 
 
-def path(polygon, extra, title=None):
-    line = "L".join(f"{z.real:.1f} {z.imag:.1f}" for z in polygon)
-    if title is None:
-        return f'<path d="M{line}Z" {extra}/>'
-    return f'<path d="M{line}Z" {extra}><title>{title}</title></path>'
+def titled(polygon, title, **look):
+    """A tile, with a text that is shown at the pointer."""
+    return path(polygon, "Z", element("title", title), **look)
 
 
-def segment(a, b, extra):
-    return f'<path d="M{a.real:.1f} {a.imag:.1f}L{b.real:.1f} {b.imag:.1f}" {extra}/>'
-
-
-def text(z, what, extra):
-    return f'<text x="{z.real:.1f}" y="{z.imag:.1f}" {extra}>{what}</text>'
+def segment(a, b, **look):
+    return path([a, b], "", **look)
 
 
 def red(a, b):
     """An edge in red."""
-    return segment(a, b, f'stroke="{RED}" stroke-width="4" stroke-linecap="round"')
+    return segment(a, b, stroke=RED, stroke_width=4, stroke_linecap="round")
 
 
 def beside(polygon):
@@ -58,8 +53,7 @@ def beside(polygon):
 
 
 def dot(polygon):
-    z = beside(polygon)
-    return f'<circle cx="{z.real:.1f}" cy="{z.imag:.1f}" r="2.2" fill="#222"/>'
+    return circle(beside(polygon), 2.2, fill="#222")
 
 
 def middle(polygon):
@@ -70,7 +64,7 @@ def middle(polygon):
 
 def edge_type(a, b, number):
     """The number of an edge's type, outside of the edge."""
-    return text((a + b) / 2 + 1j * (b - a) / abs(b - a) * 10 + 3.5j, number, f'fill="{BLUE}" font-size="10"')
+    return label((a + b) / 2 + 1j * (b - a) / abs(b - a) * 10 + 3.5j, number, fill=BLUE, font_size=10)
 
 
 def arrow(a, b, rule, number):
@@ -80,8 +74,7 @@ def arrow(a, b, rule, number):
         return []
     along = (b - a) / abs(b - a) * (1 if number < mate else -1)
     tip = (a + b) / 2 + along * 4
-    back = [tip - along * 8 * cmath.exp(1j * angle) for angle in (0.42, -0.42)]
-    return [path([tip, *back], f'fill="{BLUE}"')]
+    return [path(arrow_head(tip, along, 8, 0.42), fill=BLUE)]
 
 
 def lies(a, b, p):
@@ -209,15 +202,15 @@ def left_panel(rule, k, unit, marks):
     """The prototile of kind k, in pixels, y downwards: its outline, and its lines."""
     kind = rule.kinds[k]
     tile = [z.conjugate() * unit for z in kind.vertices]
-    lines = [path(tile, f'class="k{k}" fill="{fill(k)}" stroke="#222" stroke-width="1.6"', f"kind {k}")]
+    lines = [titled(tile, f"kind {k}", class_=f"k{k}", fill=fill(k), stroke="#222", stroke_width=1.6)]
     if k in marks.fans:
         for v in tile[2:-1]:
-            lines.append(segment(tile[0], v, f'stroke="{RED}" stroke-width="1" stroke-dasharray="3 3"'))
+            lines.append(segment(tile[0], v, stroke=RED, stroke_width=1, stroke_dasharray="3 3"))
         for a, b in sides(tile)[1:-1]:
             if cross((a - tile[0]).conjugate(), (b - tile[0]).conjugate()) < 1e-6:
                 lines.append(red(a, b))
     lines += [red(*sides(tile)[e]) for i, e in sorted(marks.prototile) if i == k]
-    lines += [f'<circle cx="{z.real:.1f}" cy="{z.imag:.1f}" r="1.6" fill="white" stroke="#222" stroke-width="0.8"/>' for z in tile[1:]]
+    lines += [circle(z, 1.6, fill="white", stroke="#222", stroke_width=0.8) for z in tile[1:]]
     lines.append(dot(tile))
     for (a, b), number in zip(sides(tile), kind.edges):
         lines += [*arrow(a, b, rule, number), edge_type(a, b, number)]
@@ -235,21 +228,21 @@ def right_panel(rule, k, unit, marks):
         turned, moved = rule.motion(turn, shift)
         tile = [(turned * z + moved).conjugate() * unit for z in rule.kinds[of].vertices]
         title = f"child {c}: kind {of}, turn {turn}"
-        lines.append(path(tile, f'class="k{of}" fill="{fill(of)}" stroke="#555" stroke-width="0.8"', title))
+        lines.append(titled(tile, title, class_=f"k{of}", fill=fill(of), stroke="#555", stroke_width=0.8))
         mid = middle(tile)
-        labels += [dot(tile), text(mid + (4j if len(rule.kinds) == 1 else 1j), c, 'font-size="13" font-weight="bold"')]
+        labels += [dot(tile), label(mid + (4j if len(rule.kinds) == 1 else 1j), c, font_size=13, font_weight="bold")]
         if len(rule.kinds) > 1:
-            labels.append(text(mid + 11j, f"k{of}", 'font-size="10"'))
+            labels.append(label(mid + 11j, f"k{of}", font_size=10))
         for e, ((a, b), number) in enumerate(zip(sides(tile), rule.kinds[of].edges)):
             labels += arrow(a, b, rule, number)
             if any(lies(p, q, a) and lies(p, q, b) and abs(b - q) < abs(a - q) for p, q in sides(large)):
                 labels.append(edge_type(a, b, number))
             if (k, c, e) in marks.child:
                 red_lines.append(red(a, b))
-    lines.append(path(large, 'fill="none" stroke="#222" stroke-width="1.8"'))
+    lines.append(path(large, fill="none", stroke="#222", stroke_width=1.8))
     for i, e in sorted(marks.inflated):
         if i == k:
-            lines.append(segment(*sides(large)[e], f'stroke="{RED}" stroke-width="2" stroke-dasharray="5 3"'))
+            lines.append(segment(*sides(large)[e], stroke=RED, stroke_width=2, stroke_dasharray="5 3"))
     return large, lines + red_lines + labels
 
 
@@ -292,23 +285,22 @@ def draw(rule, marks):
         high = max(max(size(large)[1], size(small)[1]) for (small, _), (large, _) in panels[row : row + columns])
         for i, ((small, left), (large, right)) in enumerate(panels[row : row + columns]):
             x, low, k = i * (cell + 10) + PAD, y + HEAD + high / 2, row + i
-            extra = f' fill="{RED}" font-weight="bold"' if k in marks.kinds else ""
-            body.append(text(complex(x - 10, y + 13), f"kind {k}", f'font-size="12" text-anchor="start"{extra}'))
+            look = {"fill": RED, "font_weight": "bold"} if k in marks.kinds else {}
+            body.append(label(complex(x - 10, y + 13), f"kind {k}", font_size=12, text_anchor="start", **look))
             body += shifted(small, left, x, low - size(small)[1] / 2 + 6)
             ax = x + width[0] + GAP / 2
-            body.append(f'<path d="M{ax - 8:.1f} {low:.1f}h14m-5 -4l5 4l-5 4" fill="none" stroke="#222"/>')
+            body.append(path([complex(ax - 8, low)], "h14m-5 -4l5 4l-5 4", fill="none", stroke="#222"))
             body += shifted(large, right, x + width[0] + GAP, low - size(large)[1] / 2 + 6)
         y += high + HEAD + PAD
     w = max(columns * cell + (columns - 1) * 10, 340 if marks.notes else 0)
     for note in marks.notes:
         for line in wrapped(note, w):
             y += 15
-            body.append(text(complex(10, y - 4), line, f'font-size="11" text-anchor="start" fill="{RED}"'))
-    h = y + 6
-    head = f'<svg xmlns="http://www.w3.org/2000/svg" width="{w:.0f}" height="{h:.0f}" viewBox="0 0 {w:.0f} {h:.0f}" '
-    head += 'font-family="sans-serif" text-anchor="middle" stroke-linejoin="round">'
-    title = f"<title>{rule.name}: each prototile, and the inflated prototile cut into its children</title>"
-    return "\n".join([head, title, f'<rect width="{w:.0f}" height="{h:.0f}" fill="white"/>'] + body + ["</svg>", ""])
+            body.append(label(complex(10, y - 4), line, font_size=11, text_anchor="start", fill=RED))
+    w, h = f"{w:.0f}", f"{y + 6:.0f}"
+    head = root(f"0 0 {w} {h}", w, h, font_family="sans-serif", text_anchor="middle", stroke_linejoin="round")
+    title = element("title", f"{rule.name}: each prototile, and the inflated prototile cut into its children")
+    return "\n".join([head, title, element("rect", width=w, height=h, fill="white"), *body, "</svg>", ""])
 
 
 def picture(path_of_rule, fault=None):
@@ -323,24 +315,22 @@ def picture(path_of_rule, fault=None):
 
 
 def main(words):
-    fault, folder = None, None
-    while words[:1] in (["--fault"], ["--to"]) and len(words) > 1:
-        if words[0] == "--fault":
-            fault = words[1]
-        else:
-            folder = words[1]
-        words = words[2:]
-    if not words or words[0].startswith("-") or (folder is None and len(words) != 1):
-        raise WrongWords
-    if folder is not None and not os.path.isdir(folder):
-        raise Trouble(f"{folder} is no folder")
-    for name in words:
-        svg = picture(name, fault)
-        if folder is None:
-            print(svg, end="")
+    arguments = Arguments()
+    arguments.add_argument("--fault")
+    arguments.add_argument("--to")
+    arguments.add_argument("files", nargs="+")
+    options = arguments.parse_args(words)
+    if options.to is None and len(options.files) > 1:
+        arguments.error("several files need --to FOLDER")
+    if options.to is not None and not os.path.isdir(options.to):
+        raise Trouble(f"{options.to} is no folder")
+    for name in options.files:
+        drawn = picture(name, options.fault)
+        if options.to is None:
+            print(drawn, end="")
             continue
-        with open(os.path.join(folder, os.path.splitext(os.path.basename(name))[0] + ".svg"), "w", encoding="utf-8") as file:
-            file.write(svg)
+        with open(os.path.join(options.to, os.path.splitext(os.path.basename(name))[0] + ".svg"), "w", encoding="utf-8") as file:
+            file.write(drawn)
 
 
 if __name__ == "__main__":

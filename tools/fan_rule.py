@@ -16,7 +16,7 @@ for each corner 2.
 import sys
 
 sys.dont_write_bytecode = True
-from command_line import WrongWords, run  # noqa: E402
+from command_line import Arguments, run  # noqa: E402
 
 SIDE = 4  # of a field and of a fan; a thin triangle has its apex four times as far from its base
 FIELD, FAN, BROAD = range(3)  # the first kinds
@@ -140,9 +140,9 @@ def fan_rule(cut, corners):
 
 
 def main(words):
-    if len(words) != 1 or words[0] not in map(str, RULES):
-        raise WrongWords
-    text, _, _ = fan_rule(*RULES[int(words[0])])
+    arguments = Arguments()
+    arguments.add_argument("tiles", type=int, choices=RULES)
+    text, _, _ = fan_rule(*RULES[arguments.parse_args(words).tiles])
     sys.stdout.write(text)
 
 

@@ -10,7 +10,7 @@ import sys
 import time
 
 sys.dont_write_bytecode = True
-from command_line import WrongWords, run  # noqa: E402
+from command_line import Arguments, run  # noqa: E402
 
 
 class Build:
@@ -54,9 +54,10 @@ class Build:
 
 
 def main(words):
-    if len(words) != 2:
-        raise WrongWords
-    build, name = Build(*words), None
+    arguments = Arguments()
+    arguments.add_argument("top")
+    arguments.add_argument("crate")
+    build, name = Build(*vars(arguments.parse_args(words)).values()), None
     for line in sys.stdin:
         found = re.match(r"== (\S+)", line)
         if found and name and build.is_built(name):

@@ -9,7 +9,7 @@ import sys
 import textwrap
 
 sys.dont_write_bytecode = True
-from command_line import Trouble, WrongWords, run  # noqa: E402
+from command_line import Arguments, Trouble, run  # noqa: E402
 
 WIDTH, SHORT, INDENT = 110, 53, 9  # the screen of help: its columns, where descriptions and meanings begin
 SIGNS = {"\\": r"\e", "°": r"\(de", "ζ": r"\(*z", "²": r"\(S2", "³": r"\(S3"}
@@ -166,18 +166,20 @@ def manual(table):
 
 def main(words):
     makers = {"help": help_text, "man": manual}
-    if len(words) != 2 or words[0] not in makers:
-        raise WrongWords
+    arguments = Arguments()
+    arguments.add_argument("what", choices=makers)
+    arguments.add_argument("table")
+    options = arguments.parse_args(words)
     try:
         import tomllib
 
-        with open(words[1], "rb") as file:
+        with open(options.table, "rb") as file:
             table = tomllib.load(file)
     except ImportError as missing:
         raise Trouble("this needs Python 3.11 or later") from missing
     except (OSError, ValueError) as fault:
-        raise Trouble(f"{words[1]}: {fault}") from fault
-    sys.stdout.write(makers[words[0]](table))
+        raise Trouble(f"{options.table}: {fault}") from fault
+    sys.stdout.write(makers[options.what](table))
 
 
 if __name__ == "__main__":

@@ -16,9 +16,11 @@ the address or the two addresses in line i of the list; a style sheet can colour
 has each line of the picture once. A line has the same width at any size."""
 import re
 import sys
+from argparse import ArgumentTypeError
 
 sys.dont_write_bytecode = True
-from command_line import Trouble, WrongWords, run  # noqa: E402
+from command_line import Arguments, Trouble, WrongWords, count, run  # noqa: E402
+from svg import element, escaped, root  # noqa: E402
 
 HEAD = re.compile(r'<svg xmlns="[^"]*" version="1.1" viewBox="(\S+ \S+) (\S+) (\S+)">')
 GROUP = re.compile(r'<g transform="scale\((\S+) (\S+)\)" fill="none" stroke="black" stroke-width="40">')
@@ -34,7 +36,6 @@ PALETTES = {
     "turns": ["#3a6378", "#2a7f86", "#2a9d8f", "#8ab17d", "#babb74", "#e9c46a", "#efb366", "#f4a261", "#ee8959", "#e76f51"],
 }
 OWN = re.compile(r"#[0-9A-Fa-f]{6}(?:,#[0-9A-Fa-f]{6})*")
-WORDS = {"colour": ("kind", "turn", "child", "plain"), "palette": tuple(PALETTES)}
 
 
 class Tile:
@@ -87,9 +88,9 @@ def outline(drawn):
 
 def class_of(tile, options):
     """The class by which a tile is coloured: kK, tT, or where neither says it, cN."""
-    if options["colour"] == "child":
-        return f"c{tile.digits[options['level']] if options['level'] < len(tile.digits) else 0}"
-    if options["colour"] == "turn":
+    if options.colour == "child":
+        return f"c{tile.digits[options.level] if options.level < len(tile.digits) else 0}"
+    if options.colour == "turn":
         return f"t{tile.turn}"
     return f"k{tile.kind}"
 
@@ -100,58 +101,51 @@ def fills(classes, options, palette):
     turns = max(numbers, default=0) + 1
     for name in sorted(classes):
         place = int(name[1:])
-        if options["colour"] == "plain":
+        if options.colour == "plain":
             place = 0
-        elif options["colour"] == "turn":
+        elif options.colour == "turn":
             place = place * len(palette) // turns
-        elif options["colour"] == "kind" and options["palette"] not in (None, *PALETTES):
+        elif options.colour == "kind" and options.palette not in (None, *PALETTES):
             place = numbers.index(place)
         colour = palette[place % len(palette)]
         yield f".{name}{{fill:{colour};stroke:{colour}}}"
 
 
-def escaped(text):
-    return text.replace("&", "&amp;").replace("<", "&lt;").replace(">", "&gt;")
-
-
 def paint(drawn, options):
     """The picture in colours as the text of an SVG file."""
-    name = options["palette"] or ("turns" if options["colour"] == "turn" else "day")
+    name = options.palette or ("turns" if options.colour == "turn" else "day")
     palette = PALETTES.get(name) or name.split(",")
     classes = [class_of(tile, options) for tile in drawn.tiles]
-    high = round(options["width"] * drawn.high / drawn.wide)
-    body = [f'<svg xmlns="http://www.w3.org/2000/svg" version="1.1" viewBox="{drawn.box}" width="{options["width"]}" height="{high}">']
-    body += [f"<title>{escaped(options['title'])}</title>"] if options["title"] else []
+    high = round(options.width * drawn.high / drawn.wide)
+    body = [root(drawn.box, options.width, high, "1.1")]
+    body += [element("title", escaped(options.title))] if options.title else []
     body += ['<style type="text/css">path{stroke-width:20;stroke-linejoin:round} .l{fill:none;stroke:#222;stroke-width:40}']
     body += ["@supports (vector-effect:non-scaling-stroke){path{vector-effect:non-scaling-stroke;stroke-width:1} .l{stroke-width:1.1}}"]
     body += [*fills(set(classes), options, palette), "</style>", f'<g transform="scale({drawn.scale})">']
     for tile, name in zip(drawn.tiles, classes):
         more = f" {name}" if name[0] == "c" else ""
-        body.append(f'<path class="k{tile.kind} t{tile.turn}{more}" d="M{"L".join(tile.corners)}Z"><title>{tile.name}</title></path>')
-    body.append(f'<path class="l" d="{outline(drawn)}"/>')
+        look = {"class_": f"k{tile.kind} t{tile.turn}{more}", "d": f"M{'L'.join(tile.corners)}Z"}
+        body.append(element("path", element("title", tile.name), **look))
+    body.append(element("path", class_="l", d=outline(drawn)))
     return "\n".join(body + ["</g>", "</svg>", ""])
+
+
+def palette_of(word):
+    """A type of argparse: the name of a palette, or own colours."""
+    if word not in PALETTES and not OWN.fullmatch(word):
+        raise ArgumentTypeError(f"'{word}' is none of {', '.join(PALETTES)}, and no list of colours such as '#0b3954,#ff6663'")
+    return word
 
 
 def given(words):
     """The options of a call."""
-    options = {"colour": "kind", "level": 0, "palette": None, "width": 800, "title": None}
-    while words:
-        option, words = words[0].removeprefix("--"), words[1:]
-        if option not in options:
-            raise Trouble(f"there is no option --{option}; --help names them all")
-        if not words:
-            raise Trouble(f"--{option} wants a value")
-        value, words = words[0], words[1:]
-        is_own = option == "palette" and OWN.fullmatch(value)
-        if option in WORDS and value not in WORDS[option] and not is_own:
-            own = ", and no list of colours such as '#0b3954,#ff6663'" if option == "palette" else ""
-            raise Trouble(f"'{value}' is none of {', '.join(WORDS[option])}{own}")
-        if option in ("level", "width"):
-            if not re.fullmatch(r"\d{1,5}", value):
-                raise Trouble(f"'{value}' is no number")
-            value = int(value)
-        options[option] = value
-    return options
+    arguments = Arguments()
+    arguments.add_argument("--colour", choices=("kind", "turn", "child", "plain"), default="kind")
+    arguments.add_argument("--level", type=count, default=0)
+    arguments.add_argument("--palette", type=palette_of)
+    arguments.add_argument("--width", type=count, default=800)
+    arguments.add_argument("--title")
+    return arguments.parse_args(words)
 
 
 def main(words):

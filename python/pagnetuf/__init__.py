@@ -1,6 +1,8 @@
 """Aperiodic substitution tilings, exactly: places, neighbours, windows, stars, pictures. Begin with
 `help(Tiling)`."""
+import importlib
 import sys
+import typing
 
 try:
     __import__("numpy")
@@ -14,7 +16,6 @@ from .engine import ADDRESS, BUILT_IN, TILE, Box, Engine, Frame, Machine
 from .geometry import Ring
 from .library import LibraryEngine, usual_engine
 from .patch import Patch, Tile, WholePatch
-from .program import ProgramEngine, find_program
 from .refusals import (
     BadAddress,
     BadListing,
@@ -36,10 +37,13 @@ from .refusals import (
     WriteFault,
 )
 from .rule import Rule
-from .sheet import Sheet
-from .strokes import strokes
-from .symmetry import Place, symmetric_place
 from .tiling import Across, Pairing, Placed, StarTile, Tiling, WalkTile, Window, call, rule_file
+
+if typing.TYPE_CHECKING:
+    from .program import ProgramEngine, find_program
+    from .sheet import Sheet
+    from .symmetry import Place, symmetric_place
+    from .trails import strokes
 
 __version__ = "0.2.0"
 __all__ = [
@@ -92,3 +96,22 @@ __all__ = [
     "Window",
     "WriteFault",
 ]
+# the modules of names that most users never need, which are imported when they are asked for
+_LATER = {
+    "find_program": "program",
+    "Place": "symmetry",
+    "ProgramEngine": "program",
+    "Sheet": "sheet",
+    "strokes": "trails",
+    "symmetric_place": "symmetry",
+}
+
+
+def __getattr__(name: str) -> object:
+    if name not in _LATER:
+        raise AttributeError(f"module {__name__!r} has no attribute {name!r}")
+    return getattr(importlib.import_module(f".{_LATER[name]}", __name__), name)
+
+
+def __dir__() -> list[str]:
+    return [*globals(), *_LATER]

@@ -3,6 +3,8 @@ named.
 
 A number with a fraction is never cut off. TypeError is for what isn't of the kind that a call takes, and
 ValueError for too many, too few, or out of range."""
+from __future__ import annotations
+
 import operator
 from typing import Any, Iterable, Optional, Sequence, Tuple
 
@@ -31,13 +33,13 @@ def integers(name: str, values: Any, count: int) -> Tuple[int, ...]:
     return numbers
 
 
-def point(name: str, value: Any) -> Point:
+def four_integers(name: str, value: Any) -> Point:
     """The four coefficients of a point."""
     a, b, c, d = integers(name, value, 4)
     return a, b, c, d
 
 
-def pair(name: str, value: Any) -> Tuple[int, int]:
+def two_integers(name: str, value: Any) -> Tuple[int, int]:
     """Two whole numbers, such as the half-width and the half-height of a window."""
     a, b = integers(name, value, 2)
     return a, b
@@ -54,7 +56,7 @@ def floats(name: str, value: Any) -> Tuple[float, float]:
     return x, y
 
 
-def text(name: str, value: Any) -> str:
+def text_of(name: str, value: Any) -> str:
     """A text."""
     if not isinstance(value, str):
         raise TypeError(f"{name} is a text, and not {value!r}")
@@ -88,6 +90,22 @@ def whole_array(name: str, values: Any) -> np.ndarray:
     return found
 
 
+def rows_of(name: str, values: Any, width: int) -> np.ndarray:
+    """Whole numbers whose last axis has so many, such as points, as int64 (.., width)."""
+    found = whole_array(name, values)
+    if found.shape[-1:] != (width,):
+        raise ValueError(f"{name} have the shape (.., {width}), and not {found.shape}")
+    return found.astype(np.int64, copy=False)
+
+
+def real_array(name: str, values: Any) -> np.ndarray:
+    """Real numbers as float64, of any shape."""
+    found = np.asarray(values if isinstance(values, np.ndarray) else listed(name, values))
+    if found.dtype.kind not in "iuf":
+        raise TypeError(f"{name} are real numbers, and not of the dtype {found.dtype}")
+    return found.astype(float, copy=False)
+
+
 def numbers_of_tiles(name: str, tiles: Any, count: int) -> np.ndarray:
     """Which of `count` tiles: numbers, a mask, a slice or one number, as int64 (k,). IndexError where there
     is no such tile."""
@@ -117,7 +135,7 @@ def colour_texts(name: str, colours: Any) -> Optional[Tuple[str, ...]]:
     """Colours as texts, at least one; None for None."""
     if colours is None:
         return None
-    found = tuple(text(f"each of {name}", colour) for colour in listed(name, colours))
+    found = tuple(text_of(f"each of {name}", colour) for colour in listed(name, colours))
     if not found:
         raise ValueError(f"{name} has no colour")
     return found

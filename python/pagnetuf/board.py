@@ -3,6 +3,8 @@
 `content` is the whole of it, as plain values; board.schema.json beside this file says what each means. The
 other forms have the same under the same names: JSON is the content itself, each table is a file of CSV, and
 the arrays are those of `Patch`."""
+from __future__ import annotations
+
 import csv
 import io
 import json

@@ -1,4 +1,5 @@
 """The names of colours in CSS (W3C, CSS Color Module Level 4, section 6.1)."""
+from __future__ import annotations
 
 NAMES = frozenset(
     """

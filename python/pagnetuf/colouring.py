@@ -5,7 +5,9 @@ S. Wagon, Rhombic Penrose tilings can be 3-colored, 2000): each part of one has 
 neighbours in it, so tiles are taken away one by one, and coloured in the opposite order. Kites and darts can
 be as well (R. Babilon, 3-colourability of Penrose kite-and-dart tilings, 2001). Any tiling can be with
 four."""
-from typing import Dict, List, Tuple
+from __future__ import annotations
+
+from typing import Dict, List, Set, Tuple
 
 import numpy as np
 
@@ -91,43 +93,50 @@ def exchanged(near: List[List[int]], colours: List[int], tile: int, colour: int,
 def solved(near: List[List[int]], colours: List[int], tile: int, count: int, radius: int) -> bool:
     """Colours the tiles up to some steps from a tile anew, with `count` colours, the others as they are, if a
     search of at most LONGEST_SEARCH steps finds how."""
-    inside = [tile]
-    layer = {tile}
-    for _ in range(radius):
-        layer = {other for it in layer for other in near[it]} - set(inside)
-        inside += sorted(layer)
+    inside = tiles_around(near, tile, radius)
     members = set(inside)
     open_to = {
         it: set(range(count)) - {colours[other] for other in near[it] if other not in members}
         for it in inside
     }
+    found = searched(near, open_to)
+    for it, colour in found.items():
+        colours[it] = colour
+    return bool(found)
+
+
+def tiles_around(near: List[List[int]], tile: int, radius: int) -> List[int]:
+    """The tiles up to some steps from a tile, the nearest first."""
+    inside, layer = [tile], {tile}
+    for _ in range(radius):
+        layer = {other for it in layer for other in near[it]} - set(inside)
+        inside += sorted(layer)
+    return inside
+
+
+def searched(near: List[List[int]], open_to: Dict[int, Set[int]]) -> Dict[int, int]:
+    """Colours of tiles, each one of those that are open to it, or nothing if none are found. The tile with
+    the fewest open colours is next; where none is left, the last tile takes its next colour."""
     found: Dict[int, int] = {}
-    trail: List[Tuple[int, List[int], List[Tuple[int, int]]]] = []
-    steps = 0
-    while len(found) < len(inside):
-        steps += 1
-        if steps > LONGEST_SEARCH:
-            return False
-        spot = min((it for it in inside if it not in found), key=lambda it: (len(open_to[it]), it))
+    trail: List[Tuple[int, List[int], List[int]]] = []
+    for _ in range(LONGEST_SEARCH):
+        if len(found) == len(open_to):
+            return found
+        spot = min((it for it in open_to if it not in found), key=lambda it: (len(open_to[it]), it))
         choices = sorted(open_to[spot])
         while not choices:
             if not trail:
-                return False
+                return {}
             spot, choices, closed = trail.pop()
-            del found[spot]
-            for it, colour in closed:
+            colour = found.pop(spot)
+            for it in closed:
                 open_to[it].add(colour)
-        colour = choices.pop(0)
-        found[spot] = colour
-        closed = [
-            (it, colour) for it in near[spot] if it in members and it not in found and colour in open_to[it]
-        ]
-        for it, _ in closed:
+        colour = found[spot] = choices.pop(0)
+        closed = [it for it in near[spot] if it not in found and colour in open_to.get(it, ())]
+        for it in closed:
             open_to[it].discard(colour)
         trail.append((spot, choices, closed))
-    for it, colour in found.items():
-        colours[it] = colour
-    return True
+    return found if len(found) == len(open_to) else {}
 
 
 def with_fewer(near: List[List[int]], colours: List[int], count: int) -> bool:

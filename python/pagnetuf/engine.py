@@ -5,6 +5,8 @@ The arrays have the form of the C library's structs, byte for byte. `TILE` is a 
 zeta^turn z + shift takes the prototile of its kind there; `number` is an edge or a vertex where a call says
 so; `status` is 0, or the number of the refusal in calls on arrays. `ADDRESS` is a kind and `depth` digits
 from fine to coarse, each a child's number and its parent's kind."""
+from __future__ import annotations
+
 from abc import ABC, abstractmethod
 from typing import NamedTuple, Optional, Sequence, Tuple, Union
 
@@ -25,6 +27,7 @@ TILE = np.dtype(
 )
 ADDRESS = np.dtype([("kind", "u1"), ("depth", "u1"), ("digits", "u1", (64, 2))])
 MOST_TILES = 200_000
+NO_EDGE = 255  # where there is no edge, such as that back from the base of a walk
 BUILT_IN = ("chair", "p2", "p3", "ab", "halfhex")
 Motion = Tuple[int, int, Point]  # kind, turn, shift
 # addresses as texts, or as an ADDRESS array
@@ -152,11 +155,11 @@ class Machine(ABC):
 
     @abstractmethod
     def common(self, a: str, b: str) -> Optional[int]:
-        """The least level from which on two addresses agree, or None."""
+        """The least level from which on two addresses agree, or None. BadWords for the rule of a file."""
 
     @abstractmethod
     def verify(self, frame: Frame, box: Box, listing: bytes) -> int:
-        """How many lines a right listing has. BadListing."""
+        """How many lines a right listing has. BadListing. BadWords for the rule of a file."""
 
     @abstractmethod
     def verify_tiles(self, frame: Frame, box: Box, found: Found) -> int:

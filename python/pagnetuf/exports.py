@@ -1,11 +1,14 @@
 """Patches as other libraries take them: graphs, matrices, tables, GeoJSON, files of numpy. numpy alone is
 needed; each other library is asked for when its call is made."""
+from __future__ import annotations
+
 import importlib
 import json
 from typing import TYPE_CHECKING, Any, Dict, List, Optional, Union
 
 import numpy as np
 
+from .arguments import real_array
 from .engine import ADDRESS, TILE
 from .patch import Patch, WholePatch, whole_patch
 from .rule import Rule
@@ -30,9 +33,11 @@ def needed(module: str, package: str = "") -> Any:
 
 def structure_factor(patch: Patch, waves: np.ndarray, radius: Optional[float] = None) -> np.ndarray:
     """See `Patch.structure_factor`."""
-    waves = np.asarray(waves, float)
+    waves = real_array("waves", waves)
     if waves.shape[-1:] != (2,):
         raise ValueError(f"waves are wave vectors (.., 2), and not of the shape {waves.shape}")
+    if radius is not None and not radius > 0:
+        raise ValueError(f"radius is above 0, and not {radius!r}")
     points, weights = patch.points(), np.ones(len(patch.vertices()))
     if radius is not None:
         far = ((points - points.mean(0)) ** 2).sum(1) / radius**2

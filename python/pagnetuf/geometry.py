@@ -6,12 +6,14 @@ int64 array; in the orders 4 and 6 the last two are 0. Its scaled coordinates X 
 sin(360°/order) are numbers p + q s of integers, where s is 0, sqrt 2 or the golden ratio: the *surd* of the
 order. They, products and signs are exact; only `xy` and `perpendicular` end in floats. docs/COORDINATES.md
 has the same in words."""
+from __future__ import annotations
+
 import math
 from typing import Any, Tuple
 
 import numpy as np
 
-from .arguments import frozen
+from .arguments import frozen, rows_of
 
 ORDERS = (4, 6, 8, 10)
 # zeta^2 (orders 4 and 6) or zeta^4 (8 and 10) in the lower powers
@@ -72,26 +74,84 @@ class Ring:
         return frozen(np.array(rows))
 
     def turn(self, points: np.ndarray, turns: Any) -> np.ndarray:
-        """The points times zeta^turn. `points` is (.., 4); `turns` is one integer, or an array of the shape
-        of `points` without its last axis."""
-        matrix = self.powers[np.asarray(turns) % self.order]
-        return np.einsum("...i,...ij->...j", np.asarray(points, np.int64), matrix)
+        """The points times zeta^turn.
+
+        Parameters
+        ----------
+        points : int (.., 4)
+            Coefficients of points.
+        turns : int or int (..)
+            By how many steps of 360°/order: one number, or one for each point.
+
+        Returns
+        -------
+        int64 (.., 4)
+            The turned points.
+        """
+        steps = np.asarray(turns)
+        if steps.dtype.kind not in "iu":
+            raise TypeError(f"turns are whole numbers, and not {turns!r}")
+        return np.einsum("...i,...ij->...j", rows_of("points", points, 4), self.powers[steps % self.order])
 
     def times(self, points: np.ndarray, factor: Any) -> np.ndarray:
-        """The products of points (.., 4) with one number of the ring, given by four coefficients."""
-        matrix = np.tensordot(np.asarray(factor, np.int64), self.powers[[0, 1, 2, 3]], 1)
-        return np.asarray(points, np.int64) @ matrix
+        """The products of points with one number of the ring.
+
+        Parameters
+        ----------
+        points : int (.., 4)
+            Coefficients of points.
+        factor : 4 int
+            The number.
+
+        Returns
+        -------
+        int64 (.., 4)
+            The products.
+        """
+        matrix = np.tensordot(rows_of("factor", factor, 4), self.powers[[0, 1, 2, 3]], 1)
+        return rows_of("points", points, 4) @ matrix
 
     def scaled(self, points: np.ndarray) -> Tuple[np.ndarray, np.ndarray]:
-        """X and Y of points (.., 4), exactly: two int64 arrays (.., 2) of pairs p, q for p + q surd."""
-        points = np.asarray(points, np.int64)
+        """X and Y of points, exactly.
+
+        Parameters
+        ----------
+        points : int (.., 4)
+            Coefficients of points.
+
+        Returns
+        -------
+        X, Y : int64 (.., 2)
+            Pairs p, q for p + q surd.
+
+        Raises
+        ------
+        OverflowError
+            A coefficient is above 2^60.
+        """
+        points = rows_of("points", points, 4)
         _within(POINT_LIMIT, points)
         return points @ self._x, points @ self._y
 
     def signs(self, numbers: np.ndarray) -> np.ndarray:
-        """The signs -1, 0, 1 of numbers p + q surd, given as pairs (.., 2), exactly. OverflowError where one
-        is above 2^29."""
-        numbers = np.asarray(numbers, np.int64)
+        """The signs of numbers p + q surd, exactly.
+
+        Parameters
+        ----------
+        numbers : int (.., 2)
+            Pairs p, q.
+
+        Returns
+        -------
+        int64 (..)
+            -1, 0 or 1.
+
+        Raises
+        ------
+        OverflowError
+            One is above 2^29.
+        """
+        numbers = rows_of("numbers", numbers, 2)
         _within(SIGN_LIMIT, numbers)
         p, q = numbers[..., 0], numbers[..., 1]
         if self.order in (4, 6):
@@ -105,8 +165,23 @@ class Ring:
         return np.where(alike, np.sign(np.sign(p) + np.sign(q)), np.sign(p) * larger)
 
     def product(self, a: np.ndarray, b: np.ndarray) -> np.ndarray:
-        """The products of numbers p + q surd, as pairs (.., 2), exactly. OverflowError where one is above
-        2^30."""
+        """The products of numbers p + q surd, exactly.
+
+        Parameters
+        ----------
+        a, b : int64 (.., 2)
+            Pairs p, q.
+
+        Returns
+        -------
+        int64 (.., 2)
+            The products, as pairs.
+
+        Raises
+        ------
+        OverflowError
+            One is above 2^30.
+        """
         _within(FACTOR_LIMIT, a, b)
         u, v = _SQUARE[self.order]
         both = a[..., 1] * b[..., 1]
@@ -115,35 +190,114 @@ class Ring:
         )
 
     def crossings(self, a: np.ndarray, b: np.ndarray) -> np.ndarray:
-        """X(a) Y(b) - X(b) Y(a) for points (.., 4), as pairs (.., 2), exactly: positive where b lies to the
-        left of a. OverflowError where a coordinate is above 2^30."""
+        """X(a) Y(b) - X(b) Y(a), exactly: positive where b lies to the left of a.
+
+        Parameters
+        ----------
+        a, b : int (.., 4)
+            Coefficients of points.
+
+        Returns
+        -------
+        int64 (.., 2)
+            Pairs p, q for p + q surd.
+
+        Raises
+        ------
+        OverflowError
+            A coordinate is above 2^30.
+        """
         (ax, ay), (bx, by) = self.scaled(a), self.scaled(b)
         return self.product(ax, by) - self.product(bx, ay)
 
     def value(self, numbers: np.ndarray) -> np.ndarray:
-        """Numbers p + q surd, given as pairs (.., 2), as floats."""
+        """Numbers p + q surd as floats.
+
+        Parameters
+        ----------
+        numbers : int (.., 2)
+            Pairs p, q.
+
+        Returns
+        -------
+        float64 (..)
+            Their values.
+        """
         numbers = np.asarray(numbers)
         return numbers[..., 0] + self.surd * numbers[..., 1]
 
     def xy(self, points: np.ndarray) -> np.ndarray:
-        """x and y of points (.., 4) in lengths, as float64 (.., 2)."""
+        """x and y of points, in lengths.
+
+        Parameters
+        ----------
+        points : int (.., 4)
+            Coefficients of points.
+
+        Returns
+        -------
+        float64 (.., 2)
+            Their places.
+        """
         x, y = self.scaled(points)
         return np.stack([self.value(x) / 2, self.value(y) * self.sine], -1)
 
     def conjugate(self, points: np.ndarray) -> np.ndarray:
-        """The points with zeta^3 for zeta, exactly, for the orders 8 and 10. ValueError for 4 and 6."""
+        """The points with zeta^3 for zeta, exactly.
+
+        Parameters
+        ----------
+        points : int (.., 4)
+            Coefficients of points.
+
+        Returns
+        -------
+        int64 (.., 4)
+            Their conjugates.
+
+        Raises
+        ------
+        ValueError
+            The order is 4 or 6.
+        """
         if self.order in (4, 6):
             raise ValueError("perpendicular space exists only in orders 8 and 10")
         rows = self.powers[[0, 3, 6, 9 % self.order], 0]
-        return np.asarray(points, np.int64) @ rows
+        return rows_of("points", points, 4) @ rows
 
     def perpendicular(self, points: np.ndarray) -> np.ndarray:
-        """The places of points in perpendicular space (de Bruijn 1981; Beenker 1982), as float64 (.., 2)."""
+        """The places of points in perpendicular space (de Bruijn 1981; Beenker 1982).
+
+        Parameters
+        ----------
+        points : int (.., 4)
+            Coefficients of points.
+
+        Returns
+        -------
+        float64 (.., 2)
+            x and y there, in lengths.
+
+        Raises
+        ------
+        ValueError
+            The order is 4 or 6.
+        """
         return self.xy(self.conjugate(points))
 
     def near(self, x: float, y: float) -> np.ndarray:
-        """A point with integer coefficients near x, y: within half a length in x, and half of the sine in
-        y."""
+        """A point of the ring near a place.
+
+        Parameters
+        ----------
+        x, y : float
+            The place, in lengths.
+
+        Returns
+        -------
+        int64 (4,)
+            A point within half a length in x, and half of the sine in y.
+        """
         if self.order == 8:
             return np.array([round(x), 0, round(y), 0], np.int64)
         up = round(y / self.sine)
@@ -163,7 +317,8 @@ def unique_points(points: np.ndarray) -> Tuple[np.ndarray, np.ndarray]:
     if not len(points):
         return points.reshape(0, 4), np.zeros(0, np.int64)
     least = points.min(0)
-    spans = [int(span) for span in points.max(0) - least + 1]
+    # (differences may need more than 64 bits)
+    spans = [high - low + 1 for low, high in zip(least.tolist(), points.max(0).tolist())]
     if math.prod(spans) >= 1 << 62:
         unique, numbers = np.unique(points, axis=0, return_inverse=True)
         return unique, numbers.reshape(-1)

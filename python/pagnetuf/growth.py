@@ -1,4 +1,6 @@
 """A connected patch that grows around a point: of the nearest tiles, or with a smooth rim."""
+from __future__ import annotations
+
 import heapq
 from typing import TYPE_CHECKING, Dict, List, Sequence, Set, Tuple
 
@@ -17,7 +19,7 @@ def nearest_connected(patch: "Patch", count: int, centre: Sequence[float]) -> np
     # (rounded, so that tiles at one distance come in the order of the patch)
     far = np.round((middles**2).sum(1), 9).tolist()
     near = patch.neighbours().tolist()
-    start = first_of(far)
+    start = nearest_tile(far)
     chosen: List[int] = []
     waiting, seen = [(far[start], start)], {start}
     while waiting and len(chosen) < count:
@@ -30,7 +32,7 @@ def nearest_connected(patch: "Patch", count: int, centre: Sequence[float]) -> np
     return enough(chosen, count)
 
 
-def first_of(far: List[float]) -> int:
+def nearest_tile(far: List[float]) -> int:
     """The tile from which a patch grows."""
     if not far:
         raise ValueError("there are no tiles")
@@ -73,7 +75,7 @@ class Growth:
         self.inside: Set[int] = set()
         self.touched: Dict[int, int] = {}  # how many tiles inside each vertex has
         self.waiting: List[Tuple[float, int]] = []
-        self.add(first_of(reach))
+        self.add(nearest_tile(reach))
 
     def shared(self, tile: int) -> int:
         """How many edges a tile shares with the patch."""

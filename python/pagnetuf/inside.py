@@ -1,5 +1,7 @@
 """Exact tests of points, tiles and boxes against each other. A tile is a fan of triangles round its first
 corner."""
+from __future__ import annotations
+
 from typing import TYPE_CHECKING, Tuple
 
 import numpy as np

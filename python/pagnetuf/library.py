@@ -3,11 +3,13 @@
 The library is the one that TILING_LIBRARY names, or one next to the package's files, or that of .tiling of a
 checkout, or the installed one. include/tiling.h is its header. Where a call refuses, the command's own line
 is asked for by tiling_call, so that the exception has its fields."""
+from __future__ import annotations
+
 import ctypes
 import struct
 import threading
 from functools import cached_property, lru_cache
-from typing import Any, Callable, Dict, Optional, Sequence, Tuple, TypeVar
+from typing import TYPE_CHECKING, Any, Callable, Dict, Optional, Sequence, Tuple, TypeVar
 
 import numpy as np
 
@@ -16,6 +18,7 @@ from .engine import (
     ADDRESS,
     BUILT_IN,
     MOST_TILES,
+    NO_EDGE,
     TILE,
     Addresses,
     Box,
@@ -29,18 +32,19 @@ from .engine import (
     records_of,
     taken,
 )
-from .program import CommandMachine
-from .refusals import BadListing, BadWords, NoEngine, NoMemory, refusal_of
+from .refusals import BY_STATUS, BadListing, BadWords, NoEngine, NoMemory, refusal_of
 from .rule import Rule
-from .texts import address_texts, read_alike
+from .texts import NO_TILES, address_texts, read_alike
 
-Answer = TypeVar("Answer")
+if TYPE_CHECKING:  # (most users never need it)
+    from .program import CommandMachine
+
+Result = TypeVar("Result")
 ABI = 2
 FRAME = np.dtype([("seed", "<u8"), ("base", ADDRESS), ("rest", "u1", 6)])
 WINDOW = np.dtype([("at", "<i8", 4), ("w", "<u2"), ("h", "<u2"), ("rest", "u1", 4)])
 OK, BAD_ADDRESS, REFUSED = 0, 4, 255
 NO_NUMBERS = np.zeros(0, np.int64)
-NOTHING = Found(np.zeros(0, TILE), np.zeros(0, ADDRESS), np.zeros(0, np.int64))
 STATUS, SIZE, POINTER, BYTE = ctypes.c_uint8, ctypes.c_size_t, ctypes.c_void_p, ctypes.c_uint8
 # the result and the parameters of each function that is called
 CALLS = {
@@ -69,7 +73,7 @@ RELATION = np.dtype([("relation", "u1"), ("backs", "u1", 12)])
 STAR = np.dtype([("tiles", TILE, 64), ("addresses", ADDRESS, 64), ("count", "u1"), ("rest", "u1", 7)])
 WHOLE = np.dtype([("tiles", TILE, 2), ("addresses", ADDRESS, 2), ("parts", "u1"), ("rest", "u1", 3)])
 ONE_TILE = struct.Struct("<4q8B")
-BESIDE, NO_BACK = 3, 255
+BESIDE = 3
 # the faults of arrays, by their numbers
 FAULTS, MISSING = ("", "NoTile", "NotOfFrame", "Double", "Missing", "WrongPlace", "Stray"), 4
 RELATIONS = ("none", "same", "apart")  # 0, 1 and 2
@@ -152,7 +156,7 @@ class LibraryEngine(Engine):
     """Machines over the library at a path, or over the one that is found. NoEngine without one."""
 
     def __init__(self, path: Optional[str] = None):
-        found = path or places.library()
+        found = path or places.library_path()
         if not found:
             raise NoEngine(
                 f"there is no C library {places.LIBRARIES[0]}: the wheel of the package has it, `./tiling "
@@ -194,7 +198,13 @@ class LibraryMachine(Machine):
     def __init__(self, engine: LibraryEngine, name: str, file: Optional[bytes] = None):
         self.engine, self.name, self.file, self.library = engine, name, file, engine.library
         self.handle = self._opened()
-        self.asked = CommandMachine(engine, name, file)
+
+    @cached_property
+    def asked(self) -> CommandMachine:
+        """The same rule by the words of the command, which is asked where a call refuses."""
+        from .program import CommandMachine
+
+        return CommandMachine(self.engine, self.name, self.file)
 
     def _opened(self) -> ctypes.c_void_p:
         handle, size = ctypes.c_void_p(), ctypes.c_size_t()
@@ -249,7 +259,7 @@ class LibraryMachine(Machine):
 
     def place_all(self, addresses: Addresses) -> np.ndarray:
         read, wrong = self._read_all(addresses, True)
-        tiles, count = np.zeros(len(read), TILE), len(read)
+        tiles, count = np.empty(len(read), TILE), len(read)
         self.library.place_all(self.handle, read.ctypes.data, count, tiles.ctypes.data, count)
         if len(wrong):
             tiles[wrong] = np.zeros((), TILE)
@@ -261,7 +271,7 @@ class LibraryMachine(Machine):
     ) -> Tuple[Addresses, np.ndarray]:
         there, wrong = self._read_all(addresses, False, out)
         small, far = small_edges(edges)
-        crossings, count = np.zeros(len(there), CROSSING), len(there)
+        crossings, count = np.empty(len(there), CROSSING), len(there)
         given = (there.ctypes.data, count, small.ctypes.data, count, crossings.ctypes.data, count)
         self.library.neighbour_all(self.handle, *given)
         numbers = np.empty((len(there), 2), np.uint8)
@@ -327,7 +337,7 @@ class LibraryMachine(Machine):
         found, status = cover(frame, box, addresses)
         return self._or_refused(status, found, lambda: self.asked.cover(frame, box, glue, addresses))
 
-    def _or_refused(self, status: int, answer: Answer, ask: Callable[[], Answer]) -> Answer:
+    def _or_refused(self, status: int, answer: Result, ask: Callable[[], Result]) -> Result:
         """The answer if the status is OK. Else the same question is asked of the command, which raises the
         refusal with its fields."""
         if status == NoMemory.status:
@@ -353,11 +363,11 @@ class LibraryMachine(Machine):
     def _covered(self, frame: Frame, box: Box, addresses: bool) -> Tuple[Found, int]:
         plane, window, status = self._window(frame, box)
         if status != OK:
-            return NOTHING, status
+            return NO_TILES, status
         count = ctypes.c_size_t()
 
         def fill(room: int) -> Tuple[int, np.ndarray, np.ndarray]:
-            tiles, named = np.zeros(room, TILE), np.zeros(room if addresses else 0, ADDRESS)
+            tiles, named = np.empty(room, TILE), blank_addresses(room if addresses else 0)
             status = self.library.cover(
                 *(self.handle, plane.ctypes.data, window.ctypes.data, tiles.ctypes.data, room),
                 *(named.ctypes.data, len(named), ctypes.byref(count)),
@@ -380,11 +390,11 @@ class LibraryMachine(Machine):
         """The halves of the whole tiles of a window."""
         plane, window, status = self._window(frame, box)
         if status != OK:
-            return NOTHING, status
+            return NO_TILES, status
         count = ctypes.c_size_t()
 
         def fill(room: int) -> Tuple[int, np.ndarray]:
-            wholes = np.zeros(room, WHOLE)
+            wholes = np.empty(room, WHOLE)
             status = self.library.glue(
                 *(self.handle, plane.ctypes.data, window.ctypes.data),
                 *(wholes.ctypes.data, room, ctypes.byref(count)),
@@ -419,7 +429,7 @@ class LibraryMachine(Machine):
             *(self.handle, plane.ctypes.data, grow, edges.ctypes.data, len(path)),
             *(tiles.ctypes.data, count, addresses.ctypes.data, count),
         )
-        tiles["number"][0] = NO_BACK
+        tiles["number"][0] = NO_EDGE
         found = Found(tiles, addresses, np.arange(count))
         return self._or_refused(status, found, lambda: self.asked.walk(frame, path, grow))
 
@@ -437,7 +447,7 @@ class LibraryMachine(Machine):
         if told["relation"] != BESIDE:
             return RELATIONS[int(told["relation"])]
         return " ".join(
-            f"{edge}/{back}" for edge, back in enumerate(told["backs"].tolist()) if back != NO_BACK
+            f"{edge}/{back}" for edge, back in enumerate(told["backs"].tolist()) if back != NO_EDGE
         )
 
     def common(self, a: str, b: str) -> Optional[int]:
@@ -460,12 +470,14 @@ class LibraryMachine(Machine):
                 (FAULTS[fault.value],) if fault.value == MISSING else (FAULTS[fault.value], index.value + 1)
             )
             raise BadListing(*fields)
-        return self._or_refused(status, len(tiles), lambda: self._refused_window(frame, box, len(tiles)))
+        return self._or_refused(
+            status, len(tiles), lambda: self._refused_window(frame, box, len(tiles), status)
+        )
 
-    def _refused_window(self, frame: Frame, box: Box, count: int) -> int:
+    def _refused_window(self, frame: Frame, box: Box, count: int, status: int) -> int:
         """Raises why a window is refused, as `draw` does, or that the arrays are too long."""
         self.asked.cover(frame, box)
-        raise BadListing("TooLong") if count > MOST_TILES else BadWords()
+        raise BadListing("TooLong") if count > MOST_TILES else BY_STATUS.get(status, BadWords)()
 
 
 @lru_cache(256)
@@ -477,6 +489,14 @@ def opened(path: str, name: str, file: Optional[bytes]) -> LibraryMachine:
 def usual_engine() -> Engine:
     """The engine over the library. NoEngine without one."""
     return LibraryEngine()
+
+
+def blank_addresses(count: int) -> np.ndarray:
+    """So many ADDRESS of zeros, as a call leaves the digits after the last as they are. (np.zeros would take
+    them page by page, in more time than it takes to fill large pages.)"""
+    blank = np.empty(count, ADDRESS)
+    blank.view(np.uint8).fill(0)
+    return blank
 
 
 def fits(number: int, kind: str) -> bool:

@@ -2,6 +2,8 @@
 
 What other libraries take, as graphs, tables, matrices and files, is made in `exports`, and pictures in
 `picture`."""
+from __future__ import annotations
+
 from functools import cached_property
 from typing import (
     TYPE_CHECKING,
@@ -23,7 +25,6 @@ from .arguments import colour_texts, floats, frozen, integer, numbers_of_tiles, 
 from .engine import taken
 from .geometry import unique_points
 from .rule import Rule
-from .stars import Star, stars_of
 from .texts import address_text, address_texts
 
 
@@ -33,6 +34,7 @@ if TYPE_CHECKING:  # (each is asked for when its call is made)
     import pandas
     import scipy.sparse
 
+    from .stars import Star
     from .tiling import Tiling
 
 Tiles = Union[int, slice, Sequence[int], np.ndarray]  # one number, numbers, a slice or a mask
@@ -112,7 +114,23 @@ class Patch:
         return Tile(int(self.kinds[number]), int(self.turns[number]), (a, b, c, d), address)
 
     def address(self, tile: int) -> str:
-        """The address of a tile, as `0:1/0,2/0`; of a whole tile of two halves both, joined by ` + `."""
+        """The address of a tile, as `0:1/0,2/0`; of a whole tile of two halves both, joined by ` + `.
+
+        Parameters
+        ----------
+        tile : int
+            The number of the tile.
+
+        Returns
+        -------
+        str
+            The text.
+
+        Raises
+        ------
+        ValueError
+            The tiles were asked for without addresses.
+        """
         return address_text(self.addresses[tile])
 
     def address_texts(self) -> List[str]:
@@ -284,6 +302,8 @@ class Patch:
 
         A star is a tuple with the pair (kind, corner) of each tile around the vertex, counterclockwise,
         from the least pair. The most frequent star is the first."""
+        from .stars import stars_of
+
         return stars_of(self)
 
     def stars(self) -> Dict[Star, int]:
@@ -372,8 +392,10 @@ class Patch:
 
         Raises
         ------
+        TypeError
+            The waves are no real numbers.
         ValueError
-            The last axis of the waves is not 2.
+            The last axis of the waves is not 2, or the radius is not above 0.
         """
         from .exports import structure_factor
 
@@ -620,6 +642,23 @@ class WholePatch(Patch):
         return self.addresses if self._half_addresses is None else self._half_addresses
 
     def address(self, tile: int) -> str:
+        """The address of a tile; of one of two halves both, joined by ` + `.
+
+        Parameters
+        ----------
+        tile : int
+            The number of the tile.
+
+        Returns
+        -------
+        str
+            The text.
+
+        Raises
+        ------
+        ValueError
+            The tiles were asked for without addresses.
+        """
         return " + ".join(
             address_text(self.half_addresses[half]) for half in self.halves[tile].tolist() if half >= 0
         )

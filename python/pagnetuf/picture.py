@@ -1,4 +1,6 @@
 """Colours of tiles, the same in every picture and page, and pictures of patches as SVG or in matplotlib."""
+from __future__ import annotations
+
 from functools import lru_cache
 from typing import TYPE_CHECKING, Any, Dict, Iterator, List, Optional, Sequence, Set, Tuple
 
@@ -7,7 +9,7 @@ import numpy as np
 from .arguments import one_of
 from .colouring import proper_colouring
 from .rule import Rule
-from .svg import escaped, points, root
+from .svg import corner_text, escaped, root
 
 if TYPE_CHECKING:
     from .patch import Patch
@@ -20,7 +22,7 @@ PALETTES = {
     "candy": ("#ef476f", "#ffd166", "#06d6a0", "#118ab2", "#073b4c"),
     "ink": ("#111111", "#555555", "#999999", "#cccccc", "#f5f5f5"),
 }
-BY = ("kind", "turn", "child", "neighbours")
+COLOURS_BY = ("kind", "turn", "child", "neighbours")
 
 # by kind; so many that the sixteen kinds of a rule are all different
 COLOURS = (
@@ -122,7 +124,7 @@ def fills_of(
     colours are by kind, unless `by` says otherwise."""
     own = colours_of(patch.rule, hasattr(patch, "halves"))
     usual = "turn" if own.usual == "child" and not patch.has_addresses else own.usual
-    by = one_of("by", by or ("kind" if colours else usual), BY)
+    by = one_of("by", by or ("kind" if colours else usual), COLOURS_BY)
     classes = classes_by(patch, by)
     found = np.unique(classes).tolist()
     if colours:
@@ -153,10 +155,10 @@ def svg_of(
         *(f".{by[0]}{name}{{fill:{escaped(colour)}}}" for name, colour in fills.items()),
         "</style>",
     ]
-    return "\n".join([*out, *polygons(patch, xy, ids, by[0], extra), "</svg>", ""])
+    return "\n".join([*out, *polygon_elements(patch, xy, ids, by[0], extra), "</svg>", ""])
 
 
-def polygons(
+def polygon_elements(
     patch: "Patch", xy: np.ndarray, ids: bool, letter: str = "", extra: Optional[List[int]] = None
 ) -> Iterator[str]:
     """The polygon of each tile; with `extra` also of a class of this letter and that number."""
@@ -165,7 +167,7 @@ def polygons(
     rows = zip(patch.kinds.tolist(), patch.turns.tolist(), xy.tolist(), patch.counts.tolist())
     for tile, (kind, turn, corners, count) in enumerate(rows):
         own = "" if extra is None else f" {letter}{extra[tile]}"
-        look = f'class="tile k{kind} t{turn}{own}" points="{points(corners[:count])}"'
+        look = f'class="tile k{kind} t{turn}{own}" points="{corner_text(corners[:count])}"'
         if not ids:
             yield f"<polygon {look}/>"
             continue

@@ -1,4 +1,7 @@
-"""What is computed of one window of a sheet: the tiles that it owns, or the vertices or edges that lie in it."""
+"""What is computed of one window of a sheet: the tiles that it owns, or the vertices or edges that lie in
+it."""
+from __future__ import annotations
+
 from typing import Any, Callable, List, NamedTuple, Optional, Sequence
 
 import numpy as np
@@ -121,12 +124,12 @@ def beyond(rule: Rule, shifts: np.ndarray, box: Box) -> np.ndarray:
     All others lie inside, and so meet no window beside it."""
     is_beyond = np.zeros(len(shifts), bool)
     middles_of = rule.ring.steps @ box.at
-    for along, middle, half, reach in zip(places(rule, shifts), middles_of, box.half, rule.reach):
+    for along, middle, half, reach in zip(scaled_places(rule, shifts), middles_of, box.half, rule.reach):
         is_beyond |= abs(along - middle) > half - reach - NEAR
     return np.flatnonzero(is_beyond)
 
 
-def places(rule: Rule, points: np.ndarray) -> List[np.ndarray]:
+def scaled_places(rule: Rule, points: np.ndarray) -> List[np.ndarray]:
     """X and Y of points (n, 4) as floats, which are right to far less than NEAR."""
     columns = np.ascontiguousarray(points.T, np.float64)
     return [sum(step * column for step, column in zip(row, columns) if step) for row in rule.ring.steps]

@@ -1,4 +1,6 @@
 """The pieces of a sheet, one after another, computed here or by an executor."""
+from __future__ import annotations
+
 from collections import deque
 from contextlib import contextmanager
 from functools import partial

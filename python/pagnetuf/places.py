@@ -1,5 +1,7 @@
 """Where the package finds the C library, rule files, the page, and the program: beside its own files, as a
 wheel has them, in a checkout, or where packaging/install.sh puts them."""
+from __future__ import annotations
+
 import os
 import re
 import sys
@@ -15,7 +17,7 @@ LIBRARIES = {
 }.get(sys.platform, ("libtiling.so.0", "libtiling.so"))
 
 
-def program() -> Optional[str]:
+def program_path() -> Optional[str]:
     """The path of the program `tiling`: TILING_PROGRAM, the built one of a checkout, the installed one, or
     that on the PATH."""
     named = os.environ.get("TILING_PROGRAM")
@@ -31,7 +33,7 @@ def program() -> Optional[str]:
     return shutil.which("tiling")
 
 
-def library() -> Optional[str]:
+def library_path() -> Optional[str]:
     """The path of the C library: TILING_LIBRARY, next to the package's files, the built one of a checkout, or
     the installed one."""
     named = os.environ.get("TILING_LIBRARY")
@@ -46,20 +48,20 @@ def first_of(paths: List[str]) -> Optional[str]:
     return next((path for path in paths if os.path.exists(path)), None)
 
 
-def rules() -> str:
+def rules_path() -> str:
     """The folder of rule files: next to the package's files, in a checkout, or the installed one."""
     beside = [os.path.join(HERE, "rules"), *([os.path.join(CHECKOUT, "rules")] if is_checkout() else [])]
     installed = os.path.join(PREFIX, "share", "tiling", "rules")
     return first_of([*beside, installed]) or installed
 
 
-def rule_file(name: str) -> Optional[str]:
+def rule_path(name: str) -> Optional[str]:
     """The path of the rule file of a name, such as sphinx, or None where there is none."""
-    path = os.path.join(rules(), f"{name}.toml")
+    path = os.path.join(rules_path(), f"{name}.toml")
     return path if re.fullmatch(r"[a-z0-9_]{1,60}", name) and os.path.exists(path) else None
 
 
-def page() -> Optional[str]:
+def page_path() -> Optional[str]:
     """The page to pan and zoom: next to the package's files, in a checkout, or the installed one."""
     installed = os.path.join(PREFIX, "share", "doc", "tiling", "docs", "explore.html")
     return first_of(
@@ -67,7 +69,7 @@ def page() -> Optional[str]:
     )
 
 
-def shown(path: str) -> str:
+def shown_path(path: str) -> str:
     """A path as a user types it: that of a file of a checkout from there."""
     inside = is_checkout() and os.path.abspath(path).startswith(CHECKOUT + os.sep)
     return os.path.relpath(path, CHECKOUT) if inside else path

@@ -4,25 +4,26 @@ words.
 The program is that which the variable TILING_PROGRAM names, or .tiling/program of the checkout that holds
 this package, or the installed one, or `tiling` on the PATH. A call takes one to two milliseconds beside its
 work; a window's text is parsed in bulk by numpy."""
+from __future__ import annotations
+
 import os
 from typing import Any, Callable, Dict, List, Optional, Sequence, Tuple, Union
 
 import numpy as np
 
 from . import places
-from .engine import BUILT_IN, TILE, Addresses, Box, Engine, Found, Frame, Machine, Motion, records_of
+from .engine import BUILT_IN, NO_EDGE, TILE, Addresses, Box, Engine, Found, Frame, Machine, Motion, records_of
 from .refusals import BadAddress, BadScript, BadWords, NoEngine, Refusal, refusal_of
 from .rule import Rule
 from .texts import address_texts, listing_text, parsed_listing, parsed_motions, read_texts
 
 MOST_SCRIPT = 1 << 20
-NO_EDGE = 255
 Answer = Union[bytes, Refusal]
 
 
 def find_program() -> str:
     """The path of the program `tiling`. NoEngine."""
-    found = places.program()
+    found = places.program_path()
     if not found or not os.access(found, os.X_OK):
         raise NoEngine("no program `tiling`: name it by TILING_PROGRAM, or build it by ./tiling --build")
     return found
@@ -30,8 +31,8 @@ def find_program() -> str:
 
 class ProgramEngine(Engine):
     """Machines over the program at a path, or over the one that is found: for comparisons, as it is slower
-    than the library. What is in no answer of the program, the numbers of a rule for geometry, is the
-    library's."""
+    than the library. What is in no answer of the program is the library's: the numbers of a rule, and pairs
+    and lists of tiles for the rule of a file."""
 
     def __init__(self, path: Optional[str] = None):
         self.path = path or find_program()
@@ -162,7 +163,7 @@ class CommandMachine(Machine):
         answers: List[Answer] = []
         most = len(scripts)  # as many as the next script may have
         while (start := len(answers)) < len(scripts):
-            some = within(scripts, start, start + most, MOST_SCRIPT)
+            some = fitting_scripts(scripts, start, start + most, MOST_SCRIPT)
             try:
                 answers += self.ask("calc", "".join(some).encode()).splitlines()
                 most = len(scripts)
@@ -203,6 +204,8 @@ class CommandMachine(Machine):
         return parsed_listing(text.replace(b" -\n", b" %d\n" % NO_EDGE, 1), has_number=True)
 
     def pair(self, a: str, b: str) -> str:
+        if self.file is not None:
+            return machine_by_library(self.name, self.file).pair(a, b)
         return self._script(f"let a {plain(a)}\nlet b {plain(b)}\npair a b\n")
 
     def common(self, a: str, b: str) -> Optional[int]:
@@ -223,10 +226,12 @@ class CommandMachine(Machine):
         return int(self.ask("verify", listing, **frame_words(frame), **box_words(box)).split()[1])
 
     def verify_tiles(self, frame: Frame, box: Box, found: Found) -> int:
+        if self.file is not None:
+            return machine_by_library(self.name, self.file).verify_tiles(frame, box, found)
         return self.verify(frame, box, listing_text(found).encode())
 
 
-def within(scripts: Sequence[str], start: int, end: int, size: int) -> List[str]:
+def fitting_scripts(scripts: Sequence[str], start: int, end: int, size: int) -> List[str]:
     """The scripts from a begin to an end, as far as they have so many bytes together, and at least one."""
     some: List[str] = []
     for script in scripts[start:end]:

@@ -1,4 +1,6 @@
 """How far a long work is: a bar of tqdm where it is installed, else a line a second on a terminal."""
+from __future__ import annotations
+
 import sys
 import time
 from typing import Any, Optional

@@ -5,6 +5,8 @@ docs/FORMATS.md, "Notes and exit codes", says what each means. `fields` are the 
 texts. `str()` is a sentence, with the whole line of the program behind it. A refusal is also the exception of
 Python that it is by its kind: a BadAddress is a ValueError, a NoEdge is an IndexError, and NoMemory is a
 MemoryError."""
+from __future__ import annotations
+
 from typing import Dict, Tuple, Type
 
 
@@ -218,8 +220,8 @@ class BadListing(Refusal, ValueError):
         "NotOfFrame": "tile {1} is not of the frame",
         "NoTile": "entry {1} is no tile of the rule",
         "Double": "tile {1} is there twice",
-        "Missing": "a tile that meets the window is missing",
-        "WrongPlace": "tile {1} lies elsewhere",
+        "Missing": "the tile {1} meets the window, and is missing",
+        "WrongPlace": "tile {1} lies elsewhere, at the turn {2} and the shift {3}",
         "Stray": "tile {1} does not meet the window",
         "TooLong": "it has more than 200,000 lines",
     }
@@ -235,6 +237,7 @@ class NoEngine(Exception):
 
 
 BY_NAME: Dict[str, Type[Refusal]] = {kind.__name__: kind for kind in Refusal.__subclasses__()}
+BY_STATUS: Dict[int, Type[Refusal]] = {kind.status: kind for kind in BY_NAME.values()}
 
 
 def refusal_of(line: str) -> Exception:

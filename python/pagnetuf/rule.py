@@ -1,4 +1,6 @@
 """The numbers of a rule: see docs/FORMATS.md, "The rule file"."""
+from __future__ import annotations
+
 import json
 import math
 from functools import cached_property
@@ -6,7 +8,7 @@ from typing import Any, Sequence, Tuple
 
 import numpy as np
 
-from .arguments import frozen
+from .arguments import frozen, rows_of, whole_array
 from .geometry import Ring
 
 
@@ -51,7 +53,23 @@ class Rule:
 
     @classmethod
     def from_text(cls, text: str) -> "Rule":
-        """The rule of the text that `to_text` made. ValueError for another text."""
+        """The rule of the text that `to_text` made.
+
+        Parameters
+        ----------
+        text : str
+            The text.
+
+        Returns
+        -------
+        Rule
+            The rule.
+
+        Raises
+        ------
+        ValueError
+            It is another text.
+        """
         try:
             numbers = json.loads(text)
             kinds = [Kind(**kind) for kind in numbers.pop("kinds")]
@@ -73,8 +91,22 @@ class Rule:
         return table
 
     def corners(self, kinds: np.ndarray, turns: np.ndarray, shifts: np.ndarray) -> np.ndarray:
-        """The corners of placed tiles, exactly: int64 (n, M, 4)."""
-        return self.corner_table[kinds, turns] + np.asarray(shifts)[:, None, :]
+        """The corners of placed tiles, exactly.
+
+        Parameters
+        ----------
+        kinds, turns : int (n,)
+            The kind and the turn of each tile.
+        shifts : int (n, 4)
+            Its shift.
+
+        Returns
+        -------
+        int64 (n, M, 4)
+            The corners, counterclockwise; the last again up to M, the most that a kind has.
+        """
+        table = self.corner_table[whole_array("kinds", kinds), whole_array("turns", turns)]
+        return table + rows_of("shifts", shifts, 4)[:, None, :]
 
     @cached_property
     def extent(self) -> Tuple[float, float]:
@@ -97,19 +129,58 @@ class Rule:
         return self._least_area
 
     def most_tiles(self, half: Tuple[int, int]) -> int:
-        """No window of this half-width and half-height has more tiles."""
+        """More tiles than any window of a size has.
+
+        Parameters
+        ----------
+        half : 2 int
+            The half-width and the half-height.
+
+        Returns
+        -------
+        int
+            The bound.
+        """
         # (they lie in the window and within their extent around it)
         wide, tall = (2 * side + 2 * more for side, more in zip(half, self.extent))
         return math.ceil(wide * tall / self.least_area()) + 1
 
     def area(self, kind: Kind) -> float:
-        """The area of a prototile in X and Y: that in lengths, times 2 / sin(360°/order)."""
+        """The area of a prototile in X and Y: that in lengths, times 2 / sin(360°/order).
+
+        Parameters
+        ----------
+        kind : Kind
+            One of `kinds`.
+
+        Returns
+        -------
+        float
+            The area.
+        """
         after = np.roll(kind.vertices, -1, 0)
         return float(self.ring.value(self.ring.crossings(kind.vertices, after)).sum()) / 2
 
     def child_at(self, kind: int, vertex: int) -> Tuple[int, int, int]:
-        """A child of a kind with a vertex where the inflated prototile has this one: child, its kind, its
-        vertex."""
+        """A child of a kind with a vertex where the inflated prototile has one.
+
+        Parameters
+        ----------
+        kind : int
+            The number of the kind.
+        vertex : int
+            The number of its vertex.
+
+        Returns
+        -------
+        child, kind, vertex : int
+            The number of the child, its kind, and its own number for the vertex.
+
+        Raises
+        ------
+        ValueError
+            No child has it: the rule is not accepted.
+        """
         wanted = self.ring.times(self.kinds[kind].vertices[vertex], self.factor)
         for number, child in enumerate(self.kinds[kind].children):
             corners = self.corner_table[child[0], child[1]][: self.corner_counts[child[0]]] + child[2:]

@@ -1,4 +1,6 @@
 """The numbers of a rule, as tiling_rule fills them into one struct."""
+from __future__ import annotations
+
 import ctypes
 from typing import TYPE_CHECKING
 

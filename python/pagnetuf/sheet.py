@@ -21,6 +21,8 @@ pieces come in order. A process hands back the arrays of a piece, packed to abou
 what `each` makes of the piece there:
 
     sum(Tiling("p3").sheet((20000, 15000), executor=executor, each=len))"""
+from __future__ import annotations
+
 import math
 from typing import TYPE_CHECKING, Any, Callable, Iterator, List, Optional, Sequence, Tuple
 
@@ -72,7 +74,7 @@ class Sheet:
         for sizes, extent in zip((self.columns, self.rows), widest):
             if len(sizes) > 1 and 2 * min(sizes) < extent:
                 raise ValueError(f"a piece has to be at least as large as a tile, whose extent is {extent}")
-        self._rights, self._ups = middles(self.columns), middles(self.rows)
+        self._rights, self._ups = window_middles(self.columns), window_middles(self.rows)
         self._check_reach()
 
     def _check_reach(self) -> None:
@@ -160,7 +162,7 @@ def split(half: int, most: int) -> List[int]:
     return [2 * (whole * (i + 1) // count - whole * i // count) + odd for i in range(count)]
 
 
-def middles(sizes: List[int]) -> List[int]:
+def window_middles(sizes: List[int]) -> List[int]:
     """Half the distances of the windows' centres from that of the whole."""
     ends = np.cumsum([0, *sizes]) * 2 - sum(sizes)
     return ((ends[:-1] + ends[1:]) // 4).tolist()

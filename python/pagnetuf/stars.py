@@ -1,4 +1,6 @@
 """The vertex stars of a patch: which tiles stand around a vertex, up to turns."""
+from __future__ import annotations
+
 from collections import Counter
 from typing import TYPE_CHECKING, Dict, List, Tuple
 

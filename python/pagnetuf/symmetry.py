@@ -3,6 +3,8 @@
 If a turn by 1/m of a full turn keeps a vertex star, tile by tile, it also keeps the inflated star: cutting
 into children goes with each tile. So around the k times inflated vertex the tiling is kept in a circle
 |factor|^k times as large as the star's."""
+from __future__ import annotations
+
 from typing import Iterator, List, NamedTuple, Tuple
 
 import numpy as np
@@ -52,8 +54,35 @@ def symmetric_place(
     at: Point,
     half: Tuple[int, int] = (40, 34),
 ) -> Place:
-    """A place that a turn by 1/fold keeps at least so far. `which` counts the kinds of stars that do, from 0,
-    by frequency."""
+    """A place that a turn keeps at least so far.
+
+    Parameters
+    ----------
+    tiling : Tiling
+        Whose place it is.
+    fold : int
+        The turn is by 1/fold.
+    which : int
+        The number of the vertex star among those that the turn keeps, the most frequent first.
+    radius : float
+        How far it is kept at least, in lengths.
+    frame : Frame
+        Where stars are looked for.
+    at : 4 int
+        Near which point.
+    half : 2 int
+        In which window around it.
+
+    Returns
+    -------
+    Place
+        A vertex of a base tile, and how far the turn certainly keeps the tiling around it.
+
+    Raises
+    ------
+    NoPlace
+        There is none; the message says why.
+    """
     if fold < 2 or tiling.order % fold:
         raise NoPlace(f"turns of this tiling are by 1/{tiling.order}, so none by 1/{fold} can keep it")
     window = tiling.window(at, half, frame.seed, frame.base)

@@ -1,10 +1,15 @@
 """Addresses and lists as texts, and as arrays: what the command prints, read and written in bulk by numpy."""
+from __future__ import annotations
+
 import re
-from typing import List, Sequence, Tuple, Union
+from typing import List, Optional, Sequence, Tuple, Union
 
 import numpy as np
 
 from .engine import ADDRESS, TILE, Found
+
+
+NO_TILES = Found(np.zeros(0, TILE), np.zeros(0, ADDRESS), np.zeros(0, np.int64))
 
 
 def numbers_of(text: bytes) -> np.ndarray:
@@ -43,19 +48,20 @@ def parsed_listing(text: bytes, has_number: bool = False) -> Found:
     ends = np.flatnonzero((line == ord("\n")) | (line == ord("+")))
     spaces = np.flatnonzero(line == ord(" ")).reshape(len(ends), -1)
     if not len(ends):
-        return Found(np.zeros(0, TILE), np.zeros(0, ADDRESS), np.zeros(0, np.int64))
+        return NO_TILES
     begins = np.concatenate([[0], ends[:-1] + 1])
-    tiles = tiles_of(numbers_of(pieces(line, begins, spaces[:, 2])).reshape(-1, 6))
+    tiles = tiles_of(numbers_of(cut_out(line, begins, spaces[:, 2])).reshape(-1, 6))
     addresses = addresses_of(line, spaces[:, 2] + 1, spaces[:, 3] if has_number else ends)
     if has_number:
-        tiles["number"] = numbers_of(pieces(line, spaces[:, 3], ends))
+        tiles["number"] = numbers_of(cut_out(line, spaces[:, 3], ends))
     is_last = line[ends] == ord("\n")
     return Found(tiles, addresses, np.cumsum(is_last) - is_last)
 
 
-BYTE = rb"(?:\d{1,2}|1\d\d|2[0-4]\d|25[0-5])"
-HALF = rb"BYTE BYTE -?\d{1,9}(?:,-?\d{1,9}){3} BYTE:(?:BYTE/BYTE(?:,BYTE/BYTE){0,63})?".replace(b"BYTE", BYTE)
-LINE = HALF + rb"(?: \+ " + HALF + rb")?"
+SMALL = rb"(?:\d{1,2}|1\d\d|2[0-4]\d|25[0-5])"
+HALF = rb"BYTE BYTE -?\d{1,9}(?:,-?\d{1,9}){3} BYTE:(?:BYTE/BYTE(?:,BYTE/BYTE){0,63})?"
+HALF = HALF.replace(b"BYTE", SMALL)
+WHOLE_LINE = HALF + rb"(?: \+ " + HALF + rb")?"
 
 
 def parsed_lines(text: bytes) -> Found:
@@ -63,7 +69,7 @@ def parsed_lines(text: bytes) -> Found:
     for a line of another form."""
     lines = text.splitlines()
     for number, line in enumerate(lines, 1):
-        if not re.fullmatch(LINE, line):
+        if not re.fullmatch(WHOLE_LINE, line):
             raise ValueError(f"line {number} is no line `kind turn shift address` of a list: {line[:80]!r}")
     halves = [line.split(b" + ") for line in lines]
     rows = [half.split() for both in halves for half in both]
@@ -74,7 +80,7 @@ def parsed_lines(text: bytes) -> Found:
     return Found(tiles, read_texts([row[3].decode() for row in rows]), whole)
 
 
-def pieces(line: np.ndarray, begins: np.ndarray, ends: np.ndarray) -> bytes:
+def cut_out(line: np.ndarray, begins: np.ndarray, ends: np.ndarray) -> bytes:
     """The pieces of a text from each begin to its end, the character there too, as one text."""
     marks = np.zeros(len(line) + 1, np.int8)
     marks[begins] += 1
@@ -92,7 +98,7 @@ def addresses_of(line: np.ndarray, begins: np.ndarray, ends: np.ndarray) -> np.n
         addresses["kind"] = line[begins] - ord("0")
         addresses["digits"][:, :depth] = line[begins[:, None, None] + columns] - ord("0")
         return addresses
-    numbers = numbers_of(pieces(line, begins, ends)).reshape(len(begins), 1 + 2 * depth)
+    numbers = numbers_of(cut_out(line, begins, ends)).reshape(len(begins), 1 + 2 * depth)
     addresses["kind"], addresses["digits"][:, :depth] = numbers[:, 0], numbers[:, 1:].reshape(-1, depth, 2)
     return addresses
 
@@ -135,6 +141,17 @@ def address_text(address: Union[np.ndarray, np.void]) -> str:
     return f"{int(address['kind'])}:" + ",".join(
         f"{child}/{parent}" for child, parent in address["digits"][:depth].tolist()
     )
+
+
+def common_level(a: np.void, b: np.void) -> Optional[int]:
+    """The least level from which on the kinds and the digits of two addresses agree, or None if their numbers
+    of digits differ or no level agrees."""
+    depth = int(a["depth"])
+    kinds = [[int(it["kind"]), *it["digits"][:depth, 1].tolist()] for it in (a, b)]
+    if b["depth"] != depth or kinds[0][-1] != kinds[1][-1]:
+        return None
+    others = np.flatnonzero((a["digits"][:depth] != b["digits"][:depth]).any(1))
+    return int(others.max(initial=-1)) + 1
 
 
 def listing_text(found: Found) -> str:

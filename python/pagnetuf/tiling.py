@@ -1,5 +1,19 @@
 """`Tiling`, from which all of the package is reached, and `Window`."""
-from typing import Any, Callable, Iterable, Iterator, List, NamedTuple, Optional, Sequence, Tuple, Union
+from __future__ import annotations
+
+from typing import (
+    TYPE_CHECKING,
+    Any,
+    Callable,
+    Iterable,
+    Iterator,
+    List,
+    NamedTuple,
+    Optional,
+    Sequence,
+    Tuple,
+    Union,
+)
 
 import numpy as np
 
@@ -10,21 +24,21 @@ from .arguments import (
     integer,
     listed,
     one_of,
-    pair as two_integers,
-    point as four_integers,
-    text as text_of,
+    two_integers,
+    four_integers,
+    text_of,
     whole_array,
 )
-from .engine import ADDRESS, BUILT_IN, Addresses, Box, Engine, Found, Frame, Machine, Motion, is_room
+from .engine import ADDRESS, BUILT_IN, NO_EDGE, Addresses, Box, Engine, Found, Frame, Machine, Motion, is_room
 from .geometry import Ring
 from .library import usual_engine
 from .patch import Patch, WholePatch, whole_patch
-from .program import NO_EDGE
 from .refusals import BadWords
 from .rule import Rule
-from .pieces import Pieces
-from .sheet import Sheet
-from .texts import address_text, listing_text
+from .texts import address_text, common_level, listing_text, read_texts
+
+if TYPE_CHECKING:
+    from .pieces import Pieces
 
 Address = Union[str, np.void]  # a text, or one entry of an ADDRESS array
 
@@ -124,7 +138,7 @@ class Tiling:
         NoEngine
             There is no library.
         """
-        asked, path = engine or usual_engine(), places.rule_file(text_of("a name", name))
+        asked, path = engine or usual_engine(), places.rule_path(text_of("a name", name))
         if name in BUILT_IN:
             self._hold(asked.machine(name), name)
         elif path:
@@ -132,7 +146,7 @@ class Tiling:
                 self._hold(asked.machine_of(file.read()), name)
         else:
             raise BadWords(
-                f"{name!r} is no tiling: use {', '.join(BUILT_IN)}, a name of {places.rules()}, or "
+                f"{name!r} is no tiling: use {', '.join(BUILT_IN)}, a name of {places.rules_path()}, or "
                 "Tiling.from_file(PATH)"
             )
 
@@ -389,7 +403,25 @@ class Tiling:
         return Window(self.machine, frame_of(addr, seed), box, addresses)
 
     def centre(self, at: Optional[Iterable[int]] = None, xy: Optional[Iterable[float]] = None) -> Point:
-        """The point `at`, or a point of the ring within half a length of the place `xy`, or 0."""
+        """The centre of a window, as `window` takes it.
+
+        Parameters
+        ----------
+        at : 4 int, optional
+            A point.
+        xy : 2 float, optional
+            A place in lengths instead.
+
+        Returns
+        -------
+        4 int
+            The point `at`, or a point of the ring within half a length of `xy`, or 0.
+
+        Raises
+        ------
+        ValueError
+            Both are given.
+        """
         if xy is None:
             return four_integers("at", (0, 0, 0, 0) if at is None else at)
         if at is not None:
@@ -502,10 +534,12 @@ class Tiling:
         ------
         BadAddress
             The address is not one of a tile of this rule.
-        BadWords
-            The rule is that of a file, and no built-in one.
         """
-        return self.machine.common(address_of(a), address_of(b))
+        both = [address_of(a), address_of(b)]
+        if self.machine.file is None:
+            return self.machine.common(*both)
+        self.machine.pair(*both)  # (which refuses what is no address)
+        return common_level(*read_texts(both))
 
     def locate(
         self,
@@ -574,16 +608,20 @@ class Tiling:
         ------
         BadListing
             Its fields are the fault, and the line of a text or the tile of a patch, counted from 1.
-        BadWords
-            A text of a rule file; a patch of one is taken.
+        BadAddress, BadWords, CoordLimit, DepthLimit
+            As for `window`.
         """
+        from .listings import judged, verified
+
         frame, box = frame_of(addr, seed), Box(four_integers("at", at), two_integers("half", half))
         if isinstance(listing, Patch):
-            return self.machine.verify_tiles(frame, box, Found(listing.tiles, listing.addresses))
+            return judged(self, frame, box, Found(listing.tiles, listing.addresses))
         if not isinstance(listing, (str, bytes)):
             raise TypeError(f"listing is a text or a patch, and not {listing!r}")
         data = listing.encode() if isinstance(listing, str) else listing
-        return self.machine.verify(frame, box, data)
+        if self.machine.file is None:
+            return self.machine.verify(frame, box, data)
+        return verified(self, frame, box, data)
 
     def sheet(
         self,
@@ -646,6 +684,8 @@ class Tiling:
         ValueError
             The region reaches beyond the centres that windows may have; `part` or `start` is out of range.
         """
+        from .sheet import Sheet
+
         pieces_of = None if piece is None else two_integers("piece", piece)
         region, parts = two_integers("half", half), two_integers("part", part)
         kind = one_of("of", of, ("tiles", "vertices", "edges"))
@@ -679,31 +719,87 @@ class Window(Patch):
         return whole_patch(self.rule, found.tiles, found.addresses, found.whole)
 
     def listing(self, whole: bool = False) -> str:
-        """The text of `draw layers=list`, byte for byte; with `whole`, the text with glue=yes."""
+        """The text of `draw layers=list`, byte for byte.
+
+        Parameters
+        ----------
+        whole : bool
+            Whether it is that with glue=yes.
+
+        Returns
+        -------
+        str
+            A line for each tile.
+        """
         return self.machine.listing(self.frame, self.box, whole).decode()
 
     def words(self, whole: bool = False) -> str:
-        """The arguments of `draw` for this window."""
+        """The arguments of `draw` for this window.
+
+        Parameters
+        ----------
+        whole : bool
+            Whether with glue=yes.
+
+        Returns
+        -------
+        str
+            What is typed after `tiling`.
+        """
         return words_of(self.machine, self.frame, self.box, whole)
 
 
 def call(words: Sequence[str], input: bytes = b"", engine: Optional[Engine] = None) -> bytes:
-    """What the command prints for these words and this standard input, byte for byte:
+    """What the command prints for these words and this standard input, byte for byte.
 
         >>> call(["place", "rule=p3", "addr=2:1/0,0/0"])
         b'2 9 1,1,0,0\\n'
 
-    docs/FORMATS.md has the words. A refusal of the command is raised by its name, with its fields. NoEngine.
+    Parameters
+    ----------
+    words : sequence of str
+        The arguments of the command, as docs/FORMATS.md has them.
+    input : bytes
+        What standard input gives.
+    engine : Engine, optional
+        Who answers; the library by default.
+
+    Returns
+    -------
+    bytes
+        The text.
+
+    Raises
+    ------
+    Refusal
+        By its name, with its fields.
+    NoEngine
+        There is no library.
     """
     return (engine or usual_engine()).call(words, input)
 
 
 def rule_file(name: str) -> str:
-    """The path of the rule file that belongs to the package under a name, such as "sphinx". ValueError for
-    another name."""
-    found = places.rule_file(text_of("a name", name))
+    """The path of a rule file of the package.
+
+    Parameters
+    ----------
+    name : str
+        Such as "sphinx".
+
+    Returns
+    -------
+    str
+        The path.
+
+    Raises
+    ------
+    ValueError
+        There is none of this name.
+    """
+    found = places.rule_path(text_of("a name", name))
     if not found:
-        raise ValueError(f"there is no rule file {name!r} in {places.rules()}")
+        raise ValueError(f"there is no rule file {name!r} in {places.rules_path()}")
     return found
 
 

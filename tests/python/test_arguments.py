@@ -32,6 +32,15 @@ FRACTIONS = {
     "part": (lambda t: t.sheet((60, 60), part=(0.5, 2)), "part"),
     "xy": (lambda t: t.window(xy=3.5), "xy"),
     "listing": (lambda t: t.verify(3), "listing"),
+    "points of a ring": (lambda t: t.ring.xy((0.5, 0, 0, 0)), "points"),
+    "points to turn": (lambda t: t.ring.turn(np.full((2, 4), 0.5), 1), "points"),
+    "turns": (lambda t: t.ring.turn((1, 0, 0, 0), 1.5), "turns"),
+    "factor": (lambda t: t.ring.times((1, 0, 0, 0), (1.5, 0, 0, 0)), "factor"),
+    "numbers": (lambda t: t.ring.signs(np.array([0.5, 1])), "numbers"),
+    "shifts": (lambda t: t.rule.corners(np.zeros(1, int), np.zeros(1, int), np.zeros((1, 4))), "shifts"),
+    "waves": (lambda t: t.window().structure_factor("x"), "waves"),
+    "complex waves": (lambda t: t.window().structure_factor(np.array([1j, 0])), "waves"),
+    "edges of strokes": (lambda t: pagnetuf.strokes([(0.5, 1)]), "edges"),
 }
 
 
@@ -50,6 +59,9 @@ def test_nothing_is_cut_off(tiling, name):
         ("xy is finite", lambda t: t.window(xy=(float("nan"), 0))),
         ("count is at least 1", lambda t: t.window().connected(0)),
         ("one entry for each", lambda t: t.neighbour_all(["0:"], [[0]])),
+        ("points have the shape", lambda t: t.ring.xy((1, 2, 3))),
+        ("radius is above 0", lambda t: t.window().structure_factor((0, 1), radius=0)),
+        ("waves are wave vectors", lambda t: t.window().structure_factor((0, 1, 2))),
     ],
 )
 def test_values_that_are_refused(tiling, told, ask):

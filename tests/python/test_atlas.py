@@ -8,7 +8,7 @@ import numpy as np
 import pytest
 from browser import browser
 from conftest import BUILT_IN, RULES, SVG, rule_files
-from pagnetuf.commands.atlas import page, shares, stars
+from pagnetuf.commands.atlas import atlas_page, shares, stars_section
 from pagnetuf.picture import Colours
 from pagnetuf.rule import Kind, Rule
 
@@ -19,7 +19,7 @@ PHI = (1 + math.sqrt(5)) / 2
 def test_the_page_of_each_rule(tiling, name):
     t = tiling(name)
     window = t.window(half=(24, 16))
-    text = page(t, window.whole(), window)
+    text = atlas_page(t, window.whole(), window)
     pictures = [ElementTree.fromstring(it) for it in re.findall(r"<svg.*?</svg>", text, re.S)]
     count = len(window.whole().stars())
     assert len(pictures) == 2 * len(t.rule.kinds) + 1 + min(60, count)
@@ -65,7 +65,7 @@ def test_shares_where_the_matrix_has_a_period():
 
 def test_shares_of_stars_are_those_of_inner_vertices(tiling):
     window = tiling("p3").window(half=(40, 30)).whole()
-    text = stars(window, Colours(window.rule))
+    text = stars_section(window, Colours(window.rule))
     counts = window.stars()
     told = [float(it) for it in re.findall(r"([\d.]+) %, \d+ tiles", text)]
     assert told == pytest.approx([100 * it / sum(counts.values()) for it in counts.values()], abs=0.006)
@@ -85,7 +85,7 @@ def test_an_inflated_prototile_is_its_children(tiling):
 @pytest.mark.parametrize("name", [*BUILT_IN, *rule_files()])
 def test_no_two_stars_look_alike(tiling, name):
     t = tiling(name)
-    text = stars(t.window(half=(80, 60)).whole(), Colours(t.rule))
+    text = stars_section(t.window(half=(80, 60)).whole(), Colours(t.rule))
     pictures = re.findall(r"<svg.*?</svg>", text, re.S)
     assert len(pictures) == len(set(pictures))
 
@@ -97,7 +97,7 @@ def test_the_two_stars_of_five_thick_rhombs(tiling):
     pages = {}
     for name in ("p3", "p2"):
         t = tiling(name)
-        pages[name] = stars(t.window(half=(80, 60)).whole(), Colours(t.rule))
+        pages[name] = stars_section(t.window(half=(80, 60)).whole(), Colours(t.rule))
     assert "8 stars" in pages["p3"] and "Some look alike" in pages["p3"]
     assert "7 stars" in pages["p2"] and "Some look alike" not in pages["p2"]
     far = []
@@ -131,7 +131,7 @@ def test_nothing_overlaps(tiling, tmp_path, wide):
         for name in ("rudin_shapiro_squares", "penrose_p1", "sphinx_nine", "tuebingen_triangles"):
             t = tiling(f"{name}.toml")
             window = t.window(half=(24, 16))
-            (tmp_path / "atlas.html").write_text(page(t, window.whole(), window), encoding="utf-8")
+            (tmp_path / "atlas.html").write_text(atlas_page(t, window.whole(), window), encoding="utf-8")
             driver.get(f"file://{tmp_path}/atlas.html")
             assert driver.execute_script(FAULTS, wide) == [], name
     finally:

@@ -7,7 +7,8 @@ import sys
 import pytest
 from conftest import TOP, environment_of
 
-FOLDER = os.path.join(TOP, "python", "examples")
+FOLDER = os.path.join(TOP, "python", "pagnetuf", "examples")
+NAMES = sorted(it[:-3] for it in os.listdir(FOLDER) if it.endswith(".py") and it != "__init__.py")
 NEEDS = {"plot": "matplotlib", "geojson_map": "shapely", "hdf5_pieces": "h5py", "graphs": "networkx"}
 SAYS = {
     "tight_binding": r"2170 sites, least energy -4\.2",
@@ -19,14 +20,14 @@ SAYS = {
 }
 
 
-@pytest.mark.parametrize("name", sorted(it[:-3] for it in os.listdir(FOLDER) if it.endswith(".py")))
+@pytest.mark.parametrize("name", NAMES)
 def test_an_example(library, tmp_path, name):
     pytest.importorskip(NEEDS.get(name, "scipy"))
     path = os.path.join(FOLDER, f"{name}.py")
     ran = subprocess.run(
-        [sys.executable, path],
+        [sys.executable, "-m", f"pagnetuf.examples.{name}"],
         cwd=tmp_path,
-        env=environment_of(),
+        env=environment_of(OPENBLAS_NUM_THREADS="1"),  # (several wait for each other on a busy machine)
         capture_output=True,
         text=True,
         check=False,

@@ -105,7 +105,9 @@ def test_near_is_near(order):
         assert abs(there[0] - x) < 0.5001 and abs(there[1] - y) < 0.5001
 
 
-def test_unique_points_of_far_coefficients():
-    points = np.array([[1 << 40, 0, 0, 0], [0, 1 << 40, -1, 0], [1 << 40, 0, 0, 0]], np.int64)
+@pytest.mark.parametrize("far", [1 << 40, (1 << 62) + 1])
+def test_unique_points_of_far_coefficients(far):
+    points = np.array([[far, 0, 0, 0], [0, far, -1, 0], [far, 0, 0, 0], [-far, 0, 1, 0]], np.int64)
     unique, numbers = unique_points(points)
-    assert (unique[numbers] == points).all() and len(unique) == 2
+    assert (unique[numbers] == points).all() and len(unique) == 3
+    assert unique.tolist() == sorted(unique.tolist())

@@ -341,10 +341,10 @@ def test_lists_of_tiles_of_any_rule_in_any_order(library):
     none = window.tiles.copy()
     none["turn"][5] = t.rule.order
     for tiles, addresses, fields in (
-        (turned, window.addresses, ("WrongPlace", "3")),
+        (turned, window.addresses, ("WrongPlace", "3", *window.listing().splitlines()[2].split()[1:3])),
         (alike, doubled, ("Double", "5")),
         (none, window.addresses, ("NoTile", "6")),
-        (window.tiles[:-1], window.addresses[:-1], ("Missing",)),
+        (window.tiles[:-1], window.addresses[:-1], ("Missing", window.address(len(window) - 1))),
     ):
         with pytest.raises(BadListing) as refused:
             t.verify(patch(tiles, addresses), **asked)

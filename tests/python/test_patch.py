@@ -80,6 +80,18 @@ def test_area_and_bounds(patches):
     assert np.isnan(patches[0][[]].bounds).all() and patches[0][[]].area == 0
 
 
+def test_middles(patches):
+    for patch in patches:
+        assert np.allclose(patch.middles(), [corners.mean(0) for corners in patch.polygons()])
+
+
+def test_stars_come_by_frequency(patches):
+    for patch in patches:
+        names, labels = patch.star_labels()
+        counts = np.bincount(labels[labels >= 0], minlength=len(names)).tolist()
+        assert counts == sorted(counts, reverse=True) and patch.stars() == dict(zip(names, counts))
+
+
 def test_the_rim(patches):
     """Its lines are the edges with one tile, with the tiles to their left: the area that they enclose is that
     of the tiles."""

@@ -13,7 +13,7 @@ from conftest import RULES, SVG, invalid
 from pagnetuf import Tiling
 from pagnetuf.engine import Frame
 from pagnetuf.picture import Colours
-from pagnetuf.strokes import strokes
+from pagnetuf import strokes
 from pagnetuf.symmetry import kept_radius, symmetric_place
 
 LABEL = "{http://www.inkscape.org/namespaces/inkscape}label"
@@ -252,9 +252,9 @@ def test_long_paths_come_in_parts(tiling, monkeypatch):
 
 
 def poster_options(words):
-    from pagnetuf.commands.command_line import joined, parser
+    from pagnetuf.commands.command_line import parser, with_values
 
-    return parser().parse_args(joined(list(words)))
+    return parser().parse_args(with_values(list(words)))
 
 
 def paths_by_layer(text):
@@ -434,7 +434,7 @@ def test_the_rarest_star_at_a_corner(tiling):
     found = poster.classes(patch, page, poster_options(("poster", "p3", "--by", "star")))
     names, labels = patch.star_labels()
     shares = [patch.stars()[name] for name in names]
-    for tile in np.flatnonzero(poster.within(patch, page)).tolist():
+    for tile in np.flatnonzero(poster.tiles_on(patch, page)).tolist():
         stars = [labels[v] for v in patch.corners()[tile, : patch.counts[tile]] if labels[v] >= 0]
         assert (
             stars

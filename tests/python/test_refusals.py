@@ -49,7 +49,8 @@ def test_a_refusal_is_the_exception_of_python_that_it_is(kind):
         (RuleRefused("NotToml"), "not a document of TOML"),
         (RuleRefused(), "the rule has a fault"),
         (BadListing("Stray", 3), "tile 3 does not meet"),
-        (BadListing("Missing", "0:1/0"), "is missing"),
+        (BadListing("Missing", "0:1/0"), "the tile 0:1/0 meets the window, and is missing"),
+        (BadListing("WrongPlace", 3, 2, "1,0,0,0"), "tile 3 lies elsewhere, at the turn 2 and the shift 1,0,0,0"),
     ],
 )
 def test_a_refusal_says_a_sentence(refusal, told):

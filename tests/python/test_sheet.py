@@ -8,7 +8,7 @@ import pytest
 from conftest import BUILT_IN, rule_files
 from pagnetuf.engine import Box
 from pagnetuf.piece import beyond
-from pagnetuf.sheet import RIGHT, UP, gathered, middles, split
+from pagnetuf.sheet import RIGHT, UP, gathered, split, window_middles
 
 
 def lines(patch):
@@ -20,7 +20,7 @@ def test_a_side_is_split_without_gaps(half, most):
     sizes = split(half, most)
     assert sum(sizes) == half and max(sizes) <= most and min(sizes) >= 1
     start = -half
-    for size, middle in zip(sizes, middles(sizes)):
+    for size, middle in zip(sizes, window_middles(sizes)):
         assert (start, start + 2 * size) == (2 * middle - size, 2 * middle + size)
         start += 2 * size
     assert start == half

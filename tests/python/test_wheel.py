@@ -44,7 +44,8 @@ def test_the_package_is_whole(installed):
         [
             "it/bin/python",
             "-c",
-            "import pagnetuf, pagnetuf.places as it; print(it.HERE, it.library(), it.rules(), it.page())",
+            "import pagnetuf.places as it; "
+            "print(it.HERE, it.library_path(), it.rules_path(), it.page_path())",
         ],
         installed,
     ).split()
@@ -58,7 +59,7 @@ def test_the_package_is_whole(installed):
 def test_the_document_runs_from_top_to_bottom(installed):
     for module in ("scipy.sparse.linalg", "networkx"):
         pytest.importorskip(module)
-    for name in (PYTHON_MD, os.path.join(TOP, "python", "tests", "document.py")):
+    for name in (PYTHON_MD, os.path.join(TOP, "tests", "python", "document.py")):
         shutil.copy(name, installed)
     assert int(ran(["it/bin/python", "document.py", "PYTHON.md"], installed)) > 40
 
@@ -70,4 +71,5 @@ def test_each_command(installed):
         ran(["sh", "-c", line], installed, PATH=f"{installed}/it/bin:/usr/bin:/bin")
     assert len(json.loads((installed / "board.json").read_text())["tiles"]) == 60
     assert ran(["it/bin/pagnetuf", "place", "rule=p3", "addr=2:1/0,0/0"], installed) == "2 9 1,1,0,0\n"
+    assert "colours" in ran(["it/bin/python", "-m", "pagnetuf.examples.graphs"], installed)
     assert "explore.html#" in ran(["it/bin/pagnetuf", "explore", "--print"], installed)

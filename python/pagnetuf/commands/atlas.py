@@ -6,6 +6,8 @@ a patch.
 
 The page is one file without scripts. Shares of kinds are the limit, from the rule's numbers; those of stars
 are counted in a window, of which the page says how large it is."""
+from __future__ import annotations
+
 import argparse
 import os
 from typing import List, Optional, Sequence, Tuple
@@ -15,10 +17,10 @@ import numpy as np
 from .. import places
 from ..patch import Patch
 from ..picture import Colours, classes_by, colours_of
-from ..svg import attributes, element, escaped, number, points, root
+from ..svg import attributes, corner_text, element, escaped, number, root
 from ..rule import Kind, Rule
 from ..tiling import Tiling, Window
-from .command_line import add_frame, add_rule, frame_of, tiling_of, write_pieces
+from .command_line import add_frame, add_rule, frame_asked, source_of, tiling_of, write_pieces
 
 STYLE = """body{font:16px/1.5 system-ui,sans-serif;color:#1c2a33;
 margin:2em auto;max-width:1000px;padding:0 16px}
@@ -51,13 +53,13 @@ def add_words(parser: argparse.ArgumentParser) -> None:
 
 def run(options: argparse.Namespace) -> None:
     tiling = tiling_of(options.rule)
-    frame = frame_of(options)
+    frame = frame_asked(options)
     counted = tiling.window(options.at, (80, 60), frame.seed, frame.base).whole()
     shown = tiling.window(options.at, (28, int(9 / tiling.ring.sine)), frame.seed, frame.base)
-    write_pieces([page(tiling, counted, shown)], options.out)
+    write_pieces([atlas_page(tiling, counted, shown)], options.out)
 
 
-def page(tiling: Tiling, counted: Patch, shown: Window) -> str:
+def atlas_page(tiling: Tiling, counted: Patch, shown: Window) -> str:
     name, rule = escaped(title_of(tiling)), tiling.rule
     colours = colours_of(rule)
     parts = {
@@ -70,9 +72,9 @@ def page(tiling: Tiling, counted: Patch, shown: Window) -> str:
         ],
         "A patch": [
             drawn(shown.whole(), colours, 33.5, frame=frame_box(shown)),
-            f"<p><code>{places.command()} {escaped(shown.words(True))}{escaped(source(tiling))}</code></p>",
+            f"<p><code>{places.command()} {escaped(shown.words(True) + source_of(tiling))}</code></p>",
         ],
-        "Vertex stars": [stars(counted, colours)],
+        "Vertex stars": [stars_section(counted, colours)],
     }
     head = f"{HEAD}<title>{name}</title><style>{STYLE}</style></head><body>"
     body = [line for title, lines in parts.items() for line in (f"<h2>{title}</h2>", *lines)]
@@ -82,11 +84,6 @@ def page(tiling: Tiling, counted: Patch, shown: Window) -> str:
 def title_of(tiling: Tiling) -> str:
     name = os.path.basename(tiling.name)
     return name[:-5].replace("_", " ") if name.endswith(".toml") else name
-
-
-def source(tiling: Tiling) -> str:
-    """What is typed behind the words of `draw` for a rule file."""
-    return f" < {places.shown(tiling.name)}" if tiling.machine.name == "-" else ""
 
 
 def factor_text(rule: Rule, joint: str) -> str:
@@ -164,7 +161,7 @@ def children_text(entry: Kind) -> str:
     return " and ".join([*([", ".join(parts[:-1])] if parts[1:] else []), parts[-1]])
 
 
-def stars(patch: Patch, colours: Colours) -> str:
+def stars_section(patch: Patch, colours: Colours) -> str:
     """Each vertex star, the most frequent first, with its share. Where two look alike, their tiles' first
     vertices are marked."""
     names, numbers = patch.star_labels()
@@ -240,7 +237,7 @@ def drawn(
     look = {"stroke": "#22303a", "stroke_width": number(LINE / scale), "stroke_linejoin": "round"}
     out = [root((low[0], low[1], wide, tall), *sizes, **look)]
     for fill, corners, count in zip(tile_fills(patch, colours), xy.tolist(), patch.counts.tolist()):
-        out.append(element("polygon", fill=fill, points=points(corners[:count])))
+        out.append(element("polygon", fill=fill, points=corner_text(corners[:count])))
     out += labels(xy, patch.counts.tolist(), scale) if marks and len(patch) > 1 else []
     if firsts:
         out += [dot(place, 1.8 / scale, "#fff", "#22303a") for place in first_places(xy, 8 / scale).tolist()]

@@ -4,14 +4,16 @@
   pagnetuf board chair --half 3,3 --to csv --out board
   pagnetuf board rules/sphinx.toml --half 12,6 --to svg > board.svg
 
-json  tiles, vertices, edges, the rim, and vertex stars. board.schema.json beside the package's files says
-what each
-      value means. Edge i of a tile runs from corner i to the next; x and y are in lengths, y upwards.
+json  tiles, vertices, edges, the rim, and vertex stars. board.schema.json in the folder
+      pagnetuf.__path__[0] says what each value means. Edge i of a tile runs from corner i to the next; x and
+      y are in lengths, y upwards
 csv   the same, a table a file: --out NAME makes NAME_tiles.csv, NAME_vertices.csv, NAME_edges.csv,
-NAME_rim.csv,
-      NAME_stars.csv, and NAME_board.csv with what stands before the tables
+      NAME_rim.csv, NAME_stars.csv, and NAME_board.csv with what stands before the tables. Lists have
+      blanks between their entries, and - is nothing
 npz   the same as arrays of numpy; pagnetuf.Patch.from_npz reads it
 svg   a picture in which each tile has its number as id, and its neighbours"""
+from __future__ import annotations
+
 import argparse
 import math
 import shlex
@@ -19,11 +21,11 @@ from typing import Any, Dict, Tuple
 
 import numpy as np
 
-from ..arguments import pair, point
+from ..arguments import four_integers, two_integers
 from ..board import arrays, as_csv, as_json
 from ..engine import Box, Frame
 from ..patch import Patch
-from ..picture import BY, svg_of
+from ..picture import COLOURS_BY, svg_of
 from ..refusals import TooManyTiles
 from ..sheet import Sheet, gathered
 from ..tiling import Tiling
@@ -31,8 +33,8 @@ from .command_line import (
     Trouble,
     add_frame,
     add_rule,
-    frame_of,
-    integers,
+    frame_asked,
+    integers_type,
     tiling_of,
     whole_number,
     write_bytes,
@@ -52,7 +54,7 @@ def add_words(parser: argparse.ArgumentParser) -> None:
     size.add_argument(
         "--half",
         metavar="W,H",
-        type=integers(2, 1, 4096),
+        type=integers_type(2, 1, 4096),
         help="all tiles of a window, as in `draw`; default 20,12",
     )
     shapes = (
@@ -61,7 +63,7 @@ def add_words(parser: argparse.ArgumentParser) -> None:
     parser.add_argument("--shape", choices=SHAPES, default="round", help=shapes)
     add_frame(parser)
     parser.add_argument("--halves", action="store_true", help="half tiles, not joined to whole ones")
-    parser.add_argument("--by", choices=BY, help="of svg: what the colours stand for")
+    parser.add_argument("--by", choices=COLOURS_BY, help="of svg: what the colours stand for")
     forms = "the format; default json"
     parser.add_argument("--to", choices=("json", "csv", "svg", "npz"), default="json", help=forms)
     parser.add_argument(
@@ -73,7 +75,7 @@ def run(options: argparse.Namespace) -> None:
     if options.to in ("npz", "csv") and not options.out:
         raise Trouble(f"{options.to} needs --out {'FILE.npz' if options.to == 'npz' else 'NAME'}")
     tiling = tiling_of(options.rule)
-    patch, about = board(tiling, options), about_of(options)
+    patch, about = board_of(tiling, options), about_of(options)
     if options.to == "json":
         write_pieces(as_json(patch, about), options.out)
     elif options.to == "svg":
@@ -98,11 +100,11 @@ def about_of(options: argparse.Namespace) -> Dict[str, Any]:
     return {**made, "at": list(options.at), "asked": asked, "whole": not options.halves}
 
 
-def board(tiling: Tiling, options: argparse.Namespace) -> Patch:
+def board_of(tiling: Tiling, options: argparse.Namespace) -> Patch:
     """The tiles of a window, or so many connected ones."""
-    frame, at, whole = frame_of(options), point("at", options.at), not options.halves
+    frame, at, whole = frame_asked(options), four_integers("at", options.at), not options.halves
     if not options.tiles:
-        return in_window(tiling, frame, Box(at, pair("half", options.half or (20, 12))), whole)
+        return in_window(tiling, frame, Box(at, two_integers("half", options.half or (20, 12))), whole)
     box = Box(at, first_half(tiling, options.tiles))
     while True:
         patch = in_windows(tiling, frame, box, whole)

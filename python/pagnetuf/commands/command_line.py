@@ -1,4 +1,6 @@
 """What the commands have in common: their arguments, rules by name or file, and how they end."""
+from __future__ import annotations
+
 import argparse
 import importlib
 import os
@@ -26,7 +28,7 @@ class Trouble(Exception):
     """Why a command cannot do what was asked, in a sentence."""
 
 
-def integers(count: int, least: int = -(1 << 20), most: int = 1 << 20) -> Callable[[str], List[int]]:
+def integers_type(count: int, least: int = -(1 << 20), most: int = 1 << 20) -> Callable[[str], List[int]]:
     """A type of argparse: `count` integers with commas between."""
 
     def parsed(text: str) -> List[int]:
@@ -81,7 +83,7 @@ def add_frame(parser: argparse.ArgumentParser) -> None:
     parser.add_argument(
         "--at",
         metavar="A,A,A,A",
-        type=integers(4),
+        type=integers_type(4),
         default=[0, 0, 0, 0],
         help="the centre, as four coefficients; default 0,0,0,0",
     )
@@ -100,16 +102,22 @@ def tiling_of(name: str) -> Tiling:
     except OSError as trouble:
         raise Trouble(
             f"there is no tiling {name}, and no file {name} can be read ({trouble.strerror}); "
-            f"rule files are in {places.rules()}"
+            f"rule files are in {places.rules_path()}"
         ) from trouble
+
+
+def source_of(tiling: Tiling) -> str:
+    """What is typed behind the words of `draw` for a rule file."""
+    path = tiling.name if os.path.exists(tiling.name) else places.rule_path(tiling.name) or tiling.name
+    return f" < {places.shown_path(path)}" if tiling.machine.name == "-" else ""
 
 
 def is_known(name: str) -> bool:
     """Whether a name is that of a tiling of the package, and of no file here."""
-    return name in BUILT_IN or bool(places.rule_file(name) and not os.path.exists(name))
+    return name in BUILT_IN or bool(places.rule_path(name) and not os.path.exists(name))
 
 
-def frame_of(options: argparse.Namespace) -> Frame:
+def frame_asked(options: argparse.Namespace) -> Frame:
     return Frame(options.addr, options.seed)
 
 
@@ -150,7 +158,7 @@ def tell(text: str) -> None:
     print(text, file=sys.stderr, flush=True)
 
 
-def joined(words: List[str]) -> List[str]:
+def with_values(words: List[str]) -> List[str]:
     """The arguments with `--at VALUE` as one, since the value may begin with a minus."""
     out: List[str] = []
     for word in words:
@@ -196,7 +204,7 @@ def status_of(words: List[str]) -> int:
         return 2
     if words[0] in ENGINE_COMMANDS:
         return engine_status(words)
-    options = parser().parse_args(joined(words))
+    options = parser().parse_args(with_values(words))
     try:
         options.run(options)
         flush()
@@ -234,7 +242,7 @@ def flush() -> None:
         sys.stdout.flush()
 
 
-def run(words: Optional[List[str]] = None) -> None:
+def main(words: Optional[List[str]] = None) -> None:
     """Ends with the status, and silently if standard output is a closed pipe."""
     try:
         status = status_of(sys.argv[1:] if words is None else words)

@@ -7,6 +7,8 @@
 The page is one file, docs/explore.html. It has the engine and all rule files inside, and needs no network.
 The address of the page is printed too, for a browser of your choice; it has the view, and the text of a
 rule file of your own."""
+from __future__ import annotations
+
 import argparse
 import base64
 import os
@@ -16,7 +18,7 @@ import webbrowser
 from urllib.parse import quote
 
 from .. import places
-from .command_line import Trouble, add_frame, frame_of, is_known
+from .command_line import Trouble, add_frame, frame_asked, is_known
 
 MOST_FILE = 1 << 16  # bytes of a rule file in an address
 
@@ -33,15 +35,15 @@ def add_words(parser: argparse.ArgumentParser) -> None:
 
 
 def run(options: argparse.Namespace) -> None:
-    address = f"{pathlib.Path(page()).as_uri()}#{view(options)}"
+    address = f"{pathlib.Path(page_address()).as_uri()}#{view(options)}"
     print(address, flush=True)
     if not options.print:
         webbrowser.open(address)
 
 
-def page() -> str:
+def page_address() -> str:
     """The path of the page."""
-    found = places.page()
+    found = places.page_path()
     if not found:
         raise Trouble("there is no page explore.html: packaging/make_page.py makes it")
     return found
@@ -49,19 +51,19 @@ def page() -> str:
 
 def view(options: argparse.Namespace) -> str:
     """What the page reads behind the # of its address."""
-    frame = frame_of(options)
+    frame = frame_asked(options)
     words = {
         "seed": str(frame.seed),
         "base": frame.base,
         "at": ",".join(map(str, options.at)),
-        **tiling(options.rule),
+        **tiling_words(options.rule),
     }
     return "&".join(f"{name}={quote(value, ',:/')}" for name, value in words.items())
 
 
-def tiling(name: str) -> dict:
+def tiling_words(name: str) -> dict:
     """The name of a tiling that the page knows, or the text of a rule file."""
-    known = places.rule_file(os.path.splitext(os.path.basename(name))[0])
+    known = places.rule_path(os.path.splitext(os.path.basename(name))[0])
     is_file_of_rules = known and os.path.exists(name) and os.path.samefile(name, known)
     if is_known(name) or is_file_of_rules:
         return {"tiling": os.path.splitext(os.path.basename(name))[0]}

@@ -7,6 +7,8 @@
 Each colour is a layer of Inkscape, and a group with an id; the layer has the colour, so one change recolours
 its tiles. All numbers are millimetres. A page with more tiles than a window may have is put together from
 several windows. The command `draw` for the same window is printed on standard error."""
+from __future__ import annotations
+
 import argparse
 import re
 from argparse import ArgumentTypeError
@@ -16,14 +18,14 @@ from typing import Callable, Dict, Iterable, Iterator, List, NamedTuple, Optiona
 import numpy as np
 
 from .. import places
-from ..arguments import Point, point
+from ..arguments import Point, four_integers
 from ..colouring import proper_colouring
 from ..engine import Box, Frame
 from ..patch import Patch
 from ..picture import COLOURS, PALETTES, colours_of
 from ..refusals import CoordLimit, DepthLimit
 from ..sheet import Sheet, gathered
-from ..strokes import each_stroke, strokes
+from ..trails import each_stroke, strokes
 from ..svg import element, escaped, number, root
 from ..symmetry import NoPlace, kept_radius, symmetric_place
 from ..tiling import Tiling, words_of
@@ -32,14 +34,15 @@ from .command_line import (
     add_frame,
     add_rule,
     colours,
-    frame_of,
+    frame_asked,
+    source_of,
     tell,
     tiling_of,
     whole_number,
     write_pieces,
 )
 
-MOST_TILES = 4_000_000
+MOST_ON_PAGE = 4_000_000
 INK = "#222222"
 # Some readers of XML, such as librsvg's, hold at most ten million characters, and let go of them only now and
 # then between elements. So in a large page no element is long.
@@ -48,7 +51,7 @@ MOST_WHOLE, MOST_PART = 50_000, 2_000  # tiles
 ROUND = 'stroke-linejoin="round" stroke-linecap="round"'
 CLIP = 'clip-path="url(#page)"'
 EPSILON = 1e-9  # mm
-BY = ("kind", "turn", "star", "neighbours", "ring")
+LAYERS_BY = ("kind", "turn", "star", "neighbours", "ring")
 RINGS = 5
 Spot = Tuple[float, float]  # mm
 
@@ -68,13 +71,13 @@ def millimetres(count: int, least: float, most: float) -> Callable[[str], List[f
     return parsed
 
 
-def line(text: str) -> Tuple[float, str]:
+def width_and_ink(text: str) -> Tuple[float, str]:
     """A type of argparse: a width in mm, and perhaps a colour after a comma."""
     width, _, colour = text.partition(",")
     return millimetres(1, 0, 100)(width)[0], colours(colour)[0] if colour else INK
 
 
-def symmetry(text: str) -> Tuple[int, int]:
+def fold_and_star(text: str) -> Tuple[int, int]:
     """A type of argparse: M, or M,N."""
     if not re.fullmatch(r"[0-9]{1,2}(,[0-9]{1,2})?", text):
         raise ArgumentTypeError(f"{text!r} isn't M or M,N")
@@ -89,7 +92,7 @@ def add_words(parser: argparse.ArgumentParser) -> None:
         "puts a vertex in the centre around which the whole page has M-fold symmetry; N is the number of "
         "the vertex star, from 0"
     )
-    parser.add_argument("--star", metavar="M[,N]", type=symmetry, help=star)
+    parser.add_argument("--star", metavar="M[,N]", type=fold_and_star, help=star)
     add_frame(parser)
     jobs = "so many processes compute the windows of a large page; default 1"
     parser.add_argument("--jobs", metavar="N", type=whole_number(1, 1024), default=1, help=jobs)
@@ -114,9 +117,9 @@ def add_look(parser: argparse.ArgumentParser) -> None:
     add = parser.add_argument
     add("--size", metavar="W,H", type=size, default=[1000, 700], help="the page in mm; 1000,700")
     add("--tile", metavar="MM", type=tile, default=[10.0], help="one length in mm; 10")
-    add("--by", choices=BY, default="kind", help=by)
+    add("--by", choices=LAYERS_BY, default="kind", help=by)
     add("--colours", metavar="C,C,..", type=colours, help=inks)
-    add("--line", metavar="MM[,C]", type=line, default=(0.3, INK), help=lines)
+    add("--line", metavar="MM[,C]", type=width_and_ink, default=(0.3, INK), help=lines)
     add("--joined", action="store_true", help=joined_)
     add("--cut", action="store_true", help=cut)
 
@@ -126,22 +129,17 @@ def run(options: argparse.Namespace) -> None:
         raise Trouble("dxf has lines only: add --cut")
     tiling = tiling_of(options.rule)
     page = Page(options.size, options.tile[0])
-    frame, at = frame_of(options), point("at", options.at)
+    frame, at = frame_asked(options), four_integers("at", options.at)
     if options.star:
         frame, at = symmetric(tiling, page, frame, at, options)
     page.centre = np.array(at)
     patch = tiles_of_page(tiling, page, frame, at, options)
     words = words_of(tiling.machine, frame, Box(at, page.half(tiling)), not options.halves)
-    on_page = within(patch, page)
+    on_page = tiles_on(patch, page)
     tell(f"{int(on_page.sum())} tiles; the same window: {places.command()} {words}{source_of(tiling)}")
     write_pieces(
         cut_page(patch, page, options) if options.cut else poster_svg(patch, page, options), options.out
     )
-
-
-def source_of(tiling: Tiling) -> str:
-    """What is typed behind the words of `draw` for a rule file."""
-    return f" < {places.shown(tiling.name)}" if tiling.machine.name == "-" else ""
 
 
 class Page:
@@ -194,9 +192,9 @@ def tiles_of_page(tiling: Tiling, page: Page, frame: Frame, at: Point, options: 
     """The tiles of the page, of one window or of several side by side."""
     half = page.half(tiling)
     guess = 4 * half[0] * half[1] / tiling.rule.least_area()
-    if guess > 4 * MOST_TILES:
+    if guess > 4 * MOST_ON_PAGE:
         raise Trouble(
-            f"the page would have up to {guess:.0f} tiles, and may have {MOST_TILES}: use a larger --tile"
+            f"the page would have up to {guess:.0f} tiles, and may have {MOST_ON_PAGE}: use a larger --tile"
         )
     sheet = Sheet(tiling, half, at, frame, None, not options.halves, False)
     if options.jobs == 1 or len(sheet) == 1:
@@ -266,22 +264,21 @@ def poster_svg(patch: Patch, page: Page, options: argparse.Namespace) -> Iterato
     """The picture, layer by layer."""
     spots = page.places(patch, patch.vertices())
     texts = [" ".join(pair) for pair in hundredths(spots)]
-    on_page = within(patch, page)
+    on_page = tiles_on(patch, page)
     of, names = classes(patch, page, options)
     names = {name: label for name, label in names.items() if (of[on_page] == name).any()}
     yield from head(page)
     for (name, label), colour in zip(names.items(), layer_colours(patch, options, list(names))):
         look = f'fill="{colour}" stroke="{colour}" stroke-width="0.1" stroke-linejoin="round" {CLIP}'
         yield layer(f"{options.by}{name}", label, look)
-        yield from lines(
-            (joined if options.joined else apart)(patch, np.flatnonzero((of == name) & on_page), texts)
-        )
+        areas = areas_joined if options.joined else areas_apart
+        yield from lines(areas(patch, np.flatnonzero((of == name) & on_page), texts))
         yield "</g>\n"
     width, ink = options.line
     if width:
         look = f'fill="none" stroke="{ink}" stroke-width="{number(width)}" {ROUND} {CLIP}'
         yield layer("lines", "lines", look)
-        trails = each_stroke(shown(patch.edges(), spots, page))
+        trails = each_stroke(edges_on(patch.edges(), spots, page))
         yield from lines(paths("M" + "L".join([texts[v] for v in trail]) for trail in shorter(trails)))
         yield "</g>\n"
     yield "</svg>\n"
@@ -306,7 +303,7 @@ def shorter(trails: Iterable[List[int]]) -> Iterator[List[int]]:
 
 
 def paths(pieces: Iterable[str]) -> Iterator[str]:
-    """Pieces of paths put together to few elements, none with a long attribute: see `joined`."""
+    """Pieces of paths put together to few elements, none with a long attribute: see `areas_joined`."""
     some: List[str] = []
     size = 0
     for piece in pieces:
@@ -327,7 +324,7 @@ def layer_colours(patch: Patch, options: argparse.Namespace, names: List[int]) -
         return [own[name] for name in names]
     given = list(options.colours or COLOURS)
     if options.colours and len(given) != len(names):
-        others = " or ".join(f"--by {by}" for by in BY if by != options.by)
+        others = " or ".join(f"--by {by}" for by in LAYERS_BY if by != options.by)
         told = (
             f"{len(names)} of {len(given)} colours are used" if len(given) > len(names) else "colours repeat"
         )
@@ -335,7 +332,7 @@ def layer_colours(patch: Patch, options: argparse.Namespace, names: List[int]) -
     return [given[spot % len(given)] for spot in range(len(names))]
 
 
-def within(patch: Patch, page: Page) -> np.ndarray:
+def tiles_on(patch: Patch, page: Page) -> np.ndarray:
     """Which tiles are partly on the page, by their boxes: bool (n,)."""
     spots, corners = page.places(patch, patch.vertices()), patch.corners()
     # (a tile with fewer corners repeats one)
@@ -347,27 +344,27 @@ def within(patch: Patch, page: Page) -> np.ndarray:
     return inside
 
 
-def shown(edges: np.ndarray, spots: np.ndarray, page: Page) -> np.ndarray:
+def edges_on(edges: np.ndarray, spots: np.ndarray, page: Page) -> np.ndarray:
     """The edges that are partly on the page, by their boxes."""
     start, end = spots[edges[:, 0]], spots[edges[:, 1]]
     low, high = np.minimum(start, end), np.maximum(start, end)
     return edges[(high > 0).all(1) & (low < (page.wide, page.high)).all(1)]
 
 
-def apart(patch: Patch, tiles: np.ndarray, texts: List[str]) -> Iterator[str]:
+def areas_apart(patch: Patch, tiles: np.ndarray, texts: List[str]) -> Iterator[str]:
     """A path for each tile."""
     columns = (patch.corners()[tiles].tolist(), patch.counts[tiles].tolist(), patch.turns[tiles].tolist())
     for loop, count, turn in zip(*columns):
         yield f'<path class="t{turn}" d="M{"L".join([texts[v] for v in loop[:count]])}Z"/>'
 
 
-def joined(patch: Patch, tiles: np.ndarray, texts: List[str]) -> Iterator[str]:
+def areas_joined(patch: Patch, tiles: np.ndarray, texts: List[str]) -> Iterator[str]:
     """One path around all of these tiles. If it is long, on a page of very many tiles, one path around each
     block of them."""
     near, inside = patch.neighbours(), np.zeros(len(patch) + 1, bool)
-    found = [around(patch, near, inside, tiles, texts)]
+    found = [outline_of(patch, near, inside, tiles, texts)]
     if len(found[0]) > MOST_TEXT and len(patch) > MOST_WHOLE:
-        found = [around(patch, near, inside, part, texts) for part in blocks(patch.middles(), tiles)]
+        found = [outline_of(patch, near, inside, part, texts) for part in blocks(patch.middles(), tiles)]
     return (element("path", d=text) for text in found)
 
 
@@ -380,7 +377,9 @@ def blocks(middles: np.ndarray, tiles: np.ndarray) -> List[np.ndarray]:
     return [part for half in np.array_split(order, 2) for part in blocks(middles, half)]
 
 
-def around(patch: Patch, near: np.ndarray, inside: np.ndarray, tiles: np.ndarray, texts: List[str]) -> str:
+def outline_of(
+    patch: Patch, near: np.ndarray, inside: np.ndarray, tiles: np.ndarray, texts: List[str]
+) -> str:
     """The edges of these tiles across which none of them lies, as closed lines. `near` are the neighbours of
     all tiles, and `inside` has room for a mark of each."""
     inside[tiles] = True
@@ -411,9 +410,10 @@ def cut_page(patch: Patch, page: Page, options: argparse.Namespace) -> Iterator[
 
 
 def clipped_edges(patch: Patch, page: Page) -> Tuple[np.ndarray, np.ndarray]:
-    """Each edge exactly once, clipped to the page: pairs of numbers of ends, (E, 2), and the ends in mm, (n, 2)."""
+    """Each edge exactly once, clipped to the page: pairs of numbers of ends, (E, 2), and the ends in mm,
+    (n, 2)."""
     spots = page.places(patch, patch.vertices())
-    edges, size = shown(patch.edges(), spots, page), (page.wide, page.high)
+    edges, size = edges_on(patch.edges(), spots, page), (page.wide, page.high)
     is_inside = ((spots > EPSILON) & (spots < np.array(size) - EPSILON)).all(1)[edges].all(1)
     pairs: List[List[int]] = []
     more: List[Spot] = []

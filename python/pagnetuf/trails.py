@@ -1,19 +1,34 @@
 """Edges of a graph as trails, each edge once, in as few trails as can be (L. Euler): of each connected part
 half as many as corners where an odd number of edges ends, and at least one."""
+from __future__ import annotations
+
 from array import array
 from typing import Iterator, List, Sequence, Tuple, Union
 
 import numpy as np
 
+from .arguments import rows_of
+
 
 def strokes(edges: Union[np.ndarray, Sequence[Tuple[int, int]]]) -> List[List[int]]:
-    """The trails as lists of vertices. `edges` are pairs of the numbers of their ends, (E, 2)."""
+    """Edges as trails, each edge once, in as few trails as can be.
+
+    Parameters
+    ----------
+    edges : int (E, 2)
+        Pairs of the numbers of their ends.
+
+    Returns
+    -------
+    list of list of int
+        The vertices of each trail.
+    """
     return list(each_stroke(edges))
 
 
 def each_stroke(edges: Union[np.ndarray, Sequence[Tuple[int, int]]]) -> Iterator[List[int]]:
     """The trails, one after another."""
-    pairs = np.asarray(edges, np.int64).reshape(-1, 2)
+    pairs = rows_of("edges", edges, 2) if len(edges) else np.zeros((0, 2), np.int64)
     if len(pairs):
         graph = Graph(pairs)
         for start in graph.parts:

@@ -4,10 +4,8 @@ import numpy as np
 from pagnetuf import Tiling
 
 patch = Tiling("p3").window(half=(40, 34)).whole()
-sites, hops = (
-    patch.points(),
-    patch.edges(),
-)  # for kwant: builder[site(i)] = 0 and builder[site(a), site(b)] = -1
+# (for kwant: builder[site(i)] = 0 for each site, and builder[site(a), site(b)] = -1 for each hop)
+sites, hops = patch.points(), patch.edges()
 energy = -patch.adjacency_matrix("vertices")
 assert energy.shape == (len(sites),) * 2 and energy.nnz == 2 * len(hops)
 levels = np.linalg.eigvalsh(energy.toarray())

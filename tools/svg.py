@@ -1,0 +1,1 @@
+../python/pagnetuf/svg.py
