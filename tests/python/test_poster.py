@@ -9,7 +9,7 @@ from collections import Counter
 
 import numpy as np
 import pytest
-from conftest import RULES, SVG, invalid
+from conftest import RULES, SVG, TOP, invalid
 from pagnetuf import Tiling
 from pagnetuf.engine import Frame
 from pagnetuf.picture import Colours
@@ -36,6 +36,14 @@ def layers(text):
 
 def area(loop):
     return sum(a[0] * b[1] - a[1] * b[0] for a, b in zip(loop, loop[1:] + loop[:1])) / -2
+
+
+def test_the_command_for_the_same_window(pagnetuf):
+    """A rule file stands behind its words, also where it was named without its path."""
+    for name in ("sphinx", os.path.join(RULES, "sphinx.toml")):
+        told = pagnetuf("poster", name, "--size", "60,40")[2]
+        path = re.search(r"rule=- .* < (\S+sphinx\.toml)$", told, re.M)[1]
+        assert os.path.samefile(os.path.join(TOP, path), os.path.join(RULES, "sphinx.toml"))
 
 
 @pytest.mark.parametrize("seed", range(20))
