@@ -18,7 +18,7 @@ use Rattle.cyclo_points.specs.Order.{NumberOf, is_refused}
 use Rattle.tile_place.specs.declared.locate_fault.LocateFault.{LocateFault}
 use Rattle.tile_place.specs.declared.locate_fault.LocateFault.TheVariants.{NotInside, CoordLimit}
 use Rattle.tile_place.specs.declared.placed_tile.PlacedTile.{PlacedTile}
-use Rattle.tile_place.specs.Searched.{IsFound, IsSearchFault}
+use Rattle.tile_place.specs.Searched.{IsFoundTile, IsSearchFault}
 use Rattle.tile_place.proofs.Values.{find-append_found}
 use Rattle.tile_place.proofs.Holders.{find-front}
 
@@ -126,8 +126,8 @@ fault_same o vs ws t u e f (CoordLimit v) h = (e ∙ h.0, h.1)
 
 pub same_found : (o : Order) (x : Result PlacedTile LocateFault) (vs ws : List (NumberOf o))
     (t u : Option (Placed (NumberOf o))) → find (is_refused o) vs ≡ find (is_refused o) ws → t ≡ u
-    → IfOk x (IsFound o ws u) → IfOk x (IsFound o vs t)
-same_found o x vs ws t u e f h = IfOk-weaker x (IsFound o ws u) (IsFound o vs t)
+    → IfOk x (IsFoundTile o ws u) → IfOk x (IsFoundTile o vs t)
+same_found o x vs ws t u e f h = IfOk-weaker x (IsFoundTile o ws u) (IsFoundTile o vs t)
     (λ tile k. record { holder = f ∙ k.holder; its_kind = k.its_kind; moves = k.moves; none_refused = e ∙ k.none_refused }) h
 
 pub same_fault : (o : Order) (x : Result PlacedTile LocateFault) (vs ws : List (NumberOf o))

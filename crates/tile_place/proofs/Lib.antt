@@ -1,6 +1,6 @@
 pub mod Children
 pub mod Values
-mod Visits
+pub mod Visits
 pub mod Start
 mod Finer
 mod Descent

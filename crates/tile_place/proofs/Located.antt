@@ -30,7 +30,7 @@ use Rattle.tile_place.specs.declared.placed_tile.PlacedTile.{PlacedTile}
 use Rattle.tile_place.specs.declared.locate_fault.LocateFault.{LocateFault}
 use Rattle.tile_place.specs.declared.locate_fault.LocateFault.TheVariants.{NotInside, CoordLimit}
 use Rattle.tile_place.specs.Located.{moved_tiles, IsOnlyTileHolding, HasInside, first_refused_looked_at, IsCauseOf}
-use Rattle.tile_place.specs.Searched.{placed_in, IsFound, IsSearchFault}
+use Rattle.tile_place.specs.Searched.{placed_in, IsFoundTile, IsSearchFault}
 use Rattle.tile_place.proofs.Plane.{IsSettled, its_rule}
 use Rattle.tile_place.proofs.Held.{IsDissected, has_holders, only_one}
 
@@ -96,7 +96,7 @@ module _ (m : Rule) (settled : IsSettled m) (W : PointsLaw m.order) (law : Disse
 
   -- ---- the answer
   module _ (x : Result PlacedTile LocateFault)
-      (found : IfOk x (IsFound m.order (values_looked_at P r k n at p) (tile_holding P r k n at p)))
+      (found : IfOk x (IsFoundTile m.order (values_looked_at P r k n at p) (tile_holding P r k n at p)))
       (fault : IfErr x (IsSearchFault m.order (values_looked_at P r k n at p)
       (tile_holding P r k n at p))) where
     cause_of : (f : LocateFault) → IsSearchFault m.order (values_looked_at P r k n at p)
@@ -117,7 +117,7 @@ module _ (m : Rule) (settled : IsSettled m) (W : PointsLaw m.order) (law : Disse
     pub found_exactly : IsOk x ↔ ((first_refused_looked_at (tiling_of m) k n at p ≡ None) × HasInside (tiling_of m) k n at p)
     found_exactly = by x found causes
       where
-        by : (x : Result PlacedTile LocateFault) → IfOk x (IsFound m.order (values_looked_at P r k n at p) (tile_holding P r k n at p))
+        by : (x : Result PlacedTile LocateFault) → IfOk x (IsFoundTile m.order (values_looked_at P r k n at p) (tile_holding P r k n at p))
             → IfErr x (IsCauseOf (tiling_of m) k n at p)
             → IsOk x ↔ ((first_refused_looked_at (tiling_of m) k n at p ≡ None) × HasInside (tiling_of m) k n at p)
         by (Ok t) h c = (λ _. (h.none_refused, inside (placed_in m.order t) h.holder), λ _. refl)
@@ -129,7 +129,7 @@ module _ (m : Rule) (settled : IsSettled m) (W : PointsLaw m.order) (law : Disse
     not_inside = by x found causes
       where
         by : (x : Result PlacedTile LocateFault)
-            → IfOk x (IsFound m.order (values_looked_at P r k n at p) (tile_holding P r k n at p))
+            → IfOk x (IsFoundTile m.order (values_looked_at P r k n at p) (tile_holding P r k n at p))
             → IfErr x (IsCauseOf (tiling_of m) k n at p)
             → (x ≡ Err NotInside) ↔ ((first_refused_looked_at (tiling_of m) k n at p ≡ None) × (¬ HasInside (tiling_of m) k n at p))
         by (Ok t) h c = (λ e. absurd (cc e), λ f. absurd (f.1 (inside (placed_in m.order t) h.holder)))

@@ -12,7 +12,7 @@ use Rattle.tile_place.specs.declared.inflated_tile.InflatedTile.{InflatedTile}
 use Rattle.tile_place.specs.Motions.{IsMotionOf}
 
 -- its kind exists, and its scale and its motion are within the limit of coordinates
-pub record IsInflated (m : Rule) (x : InflatedTile) : Type 0 where
+pub record IsInflatedTile (m : Rule) (x : InflatedTile) : Type 0 where
   pub kind_exists : x.kind < length (rule_of m).kinds
   pub scale_within : IsWithin (2 ^ 24) x.scale.now
   pub moves : IsMotionOf m.order (2 ^ 24) x.at.now
@@ -23,8 +23,8 @@ outline_at m kind scale at =
     outline (points_of m.order) (rule_of m) kind (point_in m.order scale) (motion_in m.order at)
 
 -- its vertices
-abbrev pub outline_of : (m : Rule) → InflatedTile → List (NumberOf m.order)
-outline_of m x = outline_at m x.kind x.scale.now x.at.now
+abbrev pub outline_in : (m : Rule) → InflatedTile → List (NumberOf m.order)
+outline_in m x = outline_at m x.kind x.scale.now x.at.now
 
 -- whether the polygon of vertices holds a point
 abbrev pub do_hold : (m : Rule) → List (NumberOf m.order) → Point → Bool

@@ -7,7 +7,7 @@ use Rattle.cyclo_points.specs.Point.{point_in, IsOf}
 use Rattle.tile_place.specs.declared.coord_limit.CoordLimit.{CoordLimit}
 
 -- the first of these values that is refused, as a point of the order
-pub record IsFirstRefused (o : Order) (values : List (NumberOf o)) (limit : CoordLimit) : Type 0 where
+pub record IsRefusedFirst (o : Order) (values : List (NumberOf o)) (limit : CoordLimit) : Type 0 where
   pub first : find (is_refused o) values ≡ Some (point_in o limit.value)
   pub in_order : IsOf o limit.value
 
@@ -15,4 +15,4 @@ pub record IsFirstRefused (o : Order) (values : List (NumberOf o)) (limit : Coor
 pub record Visits {T : Type 0} (o : Order) (values : List (NumberOf o))
     (result : Result T CoordLimit) : Type 0 where
   pub none_refused : IfOk result (λ _. find (is_refused o) values ≡ None)
-  pub limit : IfErr result (IsFirstRefused o values)
+  pub limit : IfErr result (IsRefusedFirst o values)

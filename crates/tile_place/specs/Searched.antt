@@ -26,13 +26,13 @@ pub record IsMovedSupertile (m : Rule) (x : MovedSupertile) : Type 0 where
   pub moves : IsMotionOf m.order (2 ^ 24) x.at.now
 
 -- the values looked at for a point in it, and the tile of it that holds the point
-abbrev pub values_in : (m : Rule) → MovedSupertile → Point → List (NumberOf m.order)
-values_in m x p =
+abbrev pub values_of_search : (m : Rule) → MovedSupertile → Point → List (NumberOf m.order)
+values_of_search m x p =
     values_looked_at (points_of m.order) (rule_of m) x.kind x.depth (motion_in m.order x.at.now)
     (point_in m.order p)
 
-abbrev pub holder_in : (m : Rule) → MovedSupertile → Point → Option (Placed (NumberOf m.order))
-holder_in m x p =
+abbrev pub holder_of_search : (m : Rule) → MovedSupertile → Point → Option (Placed (NumberOf m.order))
+holder_of_search m x p =
     tile_holding (points_of m.order) (rule_of m) x.kind x.depth (motion_in m.order x.at.now)
     (point_in m.order p)
 
@@ -52,7 +52,7 @@ abbrev pub placed_in : (o : Order) → PlacedTile → Placed (NumberOf o)
 placed_in o t = record { address = address_of t.addr; motion = motion_in o t.motion }
 
 -- no value on the way is refused, and this is the tile, with its own kind; it moves within the limit
-pub record IsFound (o : Order) (values : List (NumberOf o)) (tile : Option (Placed (NumberOf o)))
+pub record IsFoundTile (o : Order) (values : List (NumberOf o)) (tile : Option (Placed (NumberOf o)))
     (x : PlacedTile) : Type 0 where
   pub holder : tile ≡ Some (placed_in o x)
   pub its_kind : x.kind ≡ x.addr.kind

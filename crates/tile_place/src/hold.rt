@@ -3,7 +3,7 @@ ghost use Rattle.std.specs.Prelude.{◌≡◌, ◌^◌, ◌&&◌, pos, true, fal
 ghost use Rattle.std.specs.Ordering.{int_eq};
 ghost use Rattle.cyclo_points.specs.Order.{points_of, is_refused};
 ghost use Rattle.cyclo_points.specs.Point.{point_in, IsOf, IsWithin};
-ghost use Rattle.tile_place.specs.Inflated.{IsInflated, outline_of, do_hold};
+ghost use Rattle.tile_place.specs.Inflated.{IsInflatedTile, outline_in, do_hold};
 ghost use Rattle.tile_place.specs.Motions.{IsMotionOf};
 ghost use Rattle.tile_place.specs.Refused.{Visits};
 
@@ -28,11 +28,11 @@ impl Machine {
         point: &Point,
         sought: bool,
     ) -> Result<bool, CoordLimit>
-        requires tile { IsInflated self.now tile.now }
+        requires tile { IsInflatedTile self.now tile.now }
         requires point_within { IsWithin (2 ^ 24) point.now }
         ensures holds { IfOk result (λ holds. holds
-            ≡ (sought && do_hold self.now (outline_of self.now tile.now) point.now)) }
-        ensures visits { Visits self.now.order (outline_of self.now tile.now) result }
+            ≡ (sought && do_hold self.now (outline_in self.now tile.now) point.now)) }
+        ensures visits { Visits self.now.order (outline_in self.now tile.now) result }
     {
         let order = self.checked().order();
         match order {
@@ -54,11 +54,11 @@ impl Machine {
         sought: bool,
     ) -> Result<bool, CoordLimit>
         requires its_order { order ≡ self.now.order }
-        requires tile { IsInflated self.now tile.now }
+        requires tile { IsInflatedTile self.now tile.now }
         requires point_within { IsWithin (2 ^ 24) point.now }
         ensures holds { IfOk result (λ holds. holds
-            ≡ (sought && do_hold self.now (outline_of self.now tile.now) point.now)) }
-        ensures visits { Visits self.now.order (outline_of self.now tile.now) result }
+            ≡ (sought && do_hold self.now (outline_in self.now tile.now) point.now)) }
+        ensures visits { Visits self.now.order (outline_in self.now tile.now) result }
     {
         if sought {
             self.holds(order, tile, point)
@@ -77,11 +77,11 @@ impl Machine {
         point: &Point,
     ) -> Result<bool, CoordLimit>
         requires its_order { order ≡ self.now.order }
-        requires tile { IsInflated self.now tile.now }
+        requires tile { IsInflatedTile self.now tile.now }
         requires point_within { IsWithin (2 ^ 24) point.now }
         ensures holds { IfOk result (λ holds. holds
-            ≡ do_hold self.now (outline_of self.now tile.now) point.now) }
-        ensures visits { Visits self.now.order (outline_of self.now tile.now) result }
+            ≡ do_hold self.now (outline_in self.now tile.now) point.now) }
+        ensures visits { Visits self.now.order (outline_in self.now tile.now) result }
     {
         let checked = self.checked();
         points_law(order);
@@ -109,9 +109,9 @@ impl Machine {
     #[inline(always)]
     fn look_round(&self, order: Order, tile: &InflatedTile<'_>) -> Result<bool, CoordLimit>
         requires its_order { order ≡ self.now.order }
-        requires tile { IsInflated self.now tile.now }
+        requires tile { IsInflatedTile self.now tile.now }
         ensures is_false { IfOk result (λ holds. holds ≡ false) }
-        ensures visits { Visits self.now.order (outline_of self.now tile.now) result }
+        ensures visits { Visits self.now.order (outline_in self.now tile.now) result }
     {
         let checked = self.checked();
         points_law(order);

@@ -10,7 +10,7 @@ ghost use Rattle.cyclo_points.specs.Order.{points_of};
 ghost use Rattle.cyclo_points.specs.Point.{point_in, IsWithin};
 ghost use Rattle.cyclo_points.specs.Motion.{motion_in};
 ghost use Rattle.rule_model.specs.Views.{rule_of};
-ghost use Rattle.tile_place.specs.Inflated.{IsInflated, outline_at, do_hold};
+ghost use Rattle.tile_place.specs.Inflated.{IsInflatedTile, outline_at, do_hold};
 ghost use Rattle.tile_place.specs.Parts.{part_in, HasChild, IsPart, if_holds};
 ghost use Rattle.tile_place.specs.Refused.{Visits};
 
@@ -35,7 +35,7 @@ impl Machine {
         point: &Point,
         sought: bool,
     ) -> Result<Seen, CoordLimit>
-        requires whole { IsInflated self.now whole.now }
+        requires whole { IsInflatedTile self.now whole.now }
         requires child_exists { HasChild self.now whole.now.kind number }
         requires point_within { IsWithin (2 ^ 24) point.now }
         ensures part { IfOk result (λ seen. part_in self.now.order seen.part
@@ -86,7 +86,7 @@ impl Machine {
         whole: &InflatedTile<'_>,
         point: &Point,
     ) -> Result<Option<Part>, CoordLimit>
-        requires whole { IsInflated self.now whole.now }
+        requires whole { IsInflatedTile self.now whole.now }
         requires point_within { IsWithin (2 ^ 24) point.now }
         ensures held { IfOk result (λ part. option_map (part_in self.now.order) part
             ≡ holder (points_of self.now.order) (rule_of self.now)

@@ -1,7 +1,7 @@
 //! An edge of a prototile.
 
-/// An edge of a prototile: its kind, and the numbers of the vertices at which it begins and ends. The first of
-/// them is the number of the edge.
+/// An edge of a prototile: its kind, and the numbers of the vertices at which it begins and ends. The first
+/// of them is the number of the edge.
 #[derive(Clone, Copy)]
 pub(crate) struct PrototileEdge {
     pub(crate) kind: u8,

@@ -2,7 +2,7 @@
 ghost use Rattle.std.specs.Prelude.{◌^◌, IfOk, IfErr};
 ghost use Rattle.cyclo_points.specs.Point.{IsWithin};
 ghost use Rattle.tile_place.specs.FactorPowers.{ArePowers};
-ghost use Rattle.tile_place.specs.Searched.{IsMovedSupertile, IsFound, IsSearchFault, values_in, holder_in, values_under, holder_under};
+ghost use Rattle.tile_place.specs.Searched.{IsMovedSupertile, IsFoundTile, IsSearchFault, values_of_search, holder_of_search, values_under, holder_under};
 
 use crate::inflated_tile::InflatedTile;
 use crate::locate_fault::LocateFault;
@@ -25,10 +25,10 @@ impl Machine {
     ) -> Result<PlacedTile, LocateFault>
         requires whole { IsMovedSupertile self.now whole.now }
         requires point_within { IsWithin (2 ^ 24) point.now }
-        ensures found { IfOk result (IsFound self.now.order (values_in self.now whole.now point.now)
-            (holder_in self.now whole.now point.now)) }
-        ensures fault { IfErr result (IsSearchFault self.now.order (values_in self.now whole.now point.now)
-            (holder_in self.now whole.now point.now)) }
+        ensures found { IfOk result (IsFoundTile self.now.order
+            (values_of_search self.now whole.now point.now) (holder_of_search self.now whole.now point.now)) }
+        ensures fault { IfErr result (IsSearchFault self.now.order
+            (values_of_search self.now whole.now point.now) (holder_of_search self.now whole.now point.now)) }
     {
         let order = self.checked().order();
         let powers = match self.powers(whole.depth) {
@@ -55,7 +55,7 @@ impl Machine {
         requires whole { IsMovedSupertile self.now whole.now }
         requires point_within { IsWithin (2 ^ 24) point.now }
         requires powers { ArePowers self.now whole.now.depth powers.now }
-        ensures found { IfOk result (IsFound self.now.order (values_under self.now whole.now point.now)
+        ensures found { IfOk result (IsFoundTile self.now.order (values_under self.now whole.now point.now)
             (holder_under self.now whole.now point.now)) }
         ensures fault { IfErr result (IsSearchFault self.now.order
             (values_under self.now whole.now point.now) (holder_under self.now whole.now point.now)) }

@@ -97,7 +97,8 @@ sub_at t ty inside =
     let x = some_within t.subs ty inside in
     ap (slice_get (lists_of t)) e ∙ slice_get-append_left t.subs (sides_of t) ty inside ∙ x.1 ∙ rw x.1 refl
 
-pub types_at : (t : Tables) (k : ℕ) → IsCoherent t → k < length t.kinds → slice_get (lists_of t) (length t.mates + k + 1) ≡ Some (kind_tables t k).types
+pub types_at : (t : Tables) (k : ℕ) → IsCoherent t → k < length t.kinds → slice_get (lists_of t) (length t.mates + k + 1)
+    ≡ Some (kind_tables t k).types
 types_at t k coherent inside =
     let e : length t.mates + k + 1 ≡ suc (length t.subs + k) = omega (arith, coherent.sub_each) in
     let types = length-map t.kinds (λ (r : KindTables). r.types) in

@@ -50,10 +50,9 @@ returns c =
     let items = c.loop-row.points.items in
     let x : TurnedTable = record { sides = sides; turns = (points_of o).order; points = map widened items } in
     let kinds : c.from.result ≡ length t.rule.kinds = c.from.ensures ∙ c.kinds.ensures.kinds ∙ ap length c.uses.ensures ∙ length-map t.rule.kinds _ in
-    let turns : c.from-turns.result ≡ (points_of o).order = c.from-turns.ensures ∙ c.n.ensures in
     let all : c.loop-row.row ≡ c.from.result * c.from-turns.result = omega (arith, c.loop-row-test.false, c.loop-row.auto.row-end) in
     let total : c.loop-row.row * sides ≡ length t.rule.kinds * (points_of o).order * sides = ap (λ n. n * sides)
-    (all ∙ ap₂ (λ a b. a * b) kinds turns) in
+    (all ∙ ap₂ (λ a b. a * b) kinds (c.from-turns.ensures ∙ c.n.ensures)) in
     record {
       hold = λ k h. c.requires.hold k;
       turns = ap (λ o. (points_of o).order) c.requires.order;

@@ -11,7 +11,7 @@ use Rattle.rule_model.specs.declared.rule.Rule.{Rule}
 use Rattle.theory_plane.proofs.Rounds.{count-begun, count-next, count-ended}
 use Rattle.cyclo_points.proofs.Within.{point_wider}
 use Rattle.tile_place.specs.Motions.{IsMotionOf}
-use Rattle.tile_place.specs.Refused.{IsFirstRefused}
+use Rattle.tile_place.specs.Refused.{IsRefusedFirst}
 use Rattle.tile_place.proofs.Ahead.{none_left}
 use Rattle.tile_place.proofs.Visits.{visits-refused}
 use Rattle.tile_place.proofs.Corners.{corner_of, corner_spot, corner_refused, corner_passed, corner_there, holds-counted, of_outline, drop-none, vertices_few}
@@ -55,7 +55,7 @@ returns-in_err-first-clause-visits c =
     let least = few.0 in
     visits-refused c.args.self.now.order _ c.from_residual.result c.in_err-first.field-0.0 c.from_residual.ensures.1
     (of_outline o c.checked-checked.result.now c.args.self.now vs c.args.tile.now.kind c.args.tile.now.scale.now c.args.tile.now.at.now
-    (λ q xs. IsFirstRefused q xs c.in_err-first.field-0.0)
+    (λ q xs. IsRefusedFirst q xs c.in_err-first.field-0.0)
     (c.requires.its_order ∙ ap (λ (r : Rule). r.order) (sym c.checked-checked.ensures.rule))
     c.checked-checked.ensures.rule c.vertices-vertices.ensures.numbers
     (record {
@@ -107,7 +107,7 @@ returns-in_err-to-clause-visits c =
     visits-refused c.args.self.now.order _ c.from_residual-in_err-to.result c.in_err-to.field-0.0 c.from_residual-in_err-to.ensures.1
     (of_outline c.args.order c.checked-checked.result.now c.args.self.now c.vertices-vertices.result.now c.args.tile.now.kind
     c.args.tile.now.scale.now c.args.tile.now.at.now
-    (λ q xs. IsFirstRefused q xs c.in_err-to.field-0.0)
+    (λ q xs. IsRefusedFirst q xs c.in_err-to.field-0.0)
     (c.requires.its_order ∙ ap (λ (r : Rule). r.order) (sym c.checked-checked.ensures.rule))
     c.checked-checked.ensures.rule c.vertices-vertices.ensures.numbers
     (record {

@@ -17,7 +17,7 @@ use Rattle.tile_shape.specs.Views.{address_of}
 use Rattle.tile_place.specs.declared.placed_tile.PlacedTile.{PlacedTile}
 use Rattle.tile_place.specs.declared.locate_fault.LocateFault.{LocateFault}
 use Rattle.tile_place.specs.Located.{IsOfSupertile, IsOnlyTileHolding}
-use Rattle.tile_place.specs.Searched.{placed_in, IsFound}
+use Rattle.tile_place.specs.Searched.{placed_in, IsFoundTile}
 use Rattle.tile_place.proofs.Plane.{IsSettled}
 use Rattle.tile_place.proofs.Located.{located-only, located-depth, located-fits, located-motion, causes, found_exactly, not_inside}
 use Rattle.tile_place.proofs.machine.Machine.locate.Goals.{After-search}
@@ -26,7 +26,7 @@ use Rattle.tile_place.proofs.machine.Machine.locate.Goals as goal
 -- what is so of the tile that a search finds is so of its answer
 so_of : (o : Order) (x : Result PlacedTile LocateFault) (values : List (NumberOf o)) (tile : Option (Placed (NumberOf o)))
     (Q : Placed (NumberOf o) → Type 0) → ((t : Placed (NumberOf o)) → tile ≡ Some t → Q t)
-    → IfOk x (IsFound o values tile) → IfOk x (λ t. Q (placed_in o t))
+    → IfOk x (IsFoundTile o values tile) → IfOk x (λ t. Q (placed_in o t))
 so_of o (Ok t) values tile Q each h = each (placed_in o t) h.holder
 so_of o (Err f) values tile Q each h = tt
 
@@ -64,7 +64,7 @@ returns-clause-only_tile c =
 -- the facts of an answer
 all_of : (t : Tiling) (n : ℕ) (x : Result PlacedTile LocateFault) (values : List (NumberOf t.order)) (tile : Option (Placed (NumberOf t.order)))
     → IfOk x (λ y. (depth_of (address_of y.addr) ≡ n) × Fits (children t) (address_of y.addr))
-    → IfOk x (IsFound t.order values tile) → IfOk x (IsOfSupertile t n)
+    → IfOk x (IsFoundTile t.order values tile) → IfOk x (IsOfSupertile t n)
 all_of t n (Ok y) values tile at found = record { its_kind = found.its_kind; its_depth = at.0; its_address = at.1; moves = found.moves }
 all_of t n (Err f) values tile at found = tt
 

@@ -3,7 +3,7 @@ use Rattle.cyclo_points.specs.Order.{is_refused}
 use Rattle.rule_model.specs.declared.rule.Rule.{Rule}
 use Rattle.cyclo_points.proofs.Within.{point_wider}
 use Rattle.tile_place.specs.Motions.{IsMotionOf}
-use Rattle.tile_place.specs.Refused.{IsFirstRefused}
+use Rattle.tile_place.specs.Refused.{IsRefusedFirst}
 use Rattle.tile_place.proofs.Ahead.{none_left}
 use Rattle.tile_place.proofs.Visits.{visits-refused}
 use Rattle.tile_place.proofs.Corners.{corner_of, corner_refused, corner_passed, of_outline}
@@ -37,7 +37,7 @@ pub returns-in_err-corner-clause-visits : goal.returns-in_err-corner-clause-visi
 returns-in_err-corner-clause-visits c =
     visits-refused c.args.self.now.order _ c.from_residual.result c.in_err-corner.field-0.0 c.from_residual.ensures.1
     (of_outline c.args.order c.checked-checked.result.now c.args.self.now c.vertices-vertices.result.now c.args.tile.now.kind
-    c.args.tile.now.scale.now c.args.tile.now.at.now (λ q xs. IsFirstRefused q xs c.in_err-corner.field-0.0)
+    c.args.tile.now.scale.now c.args.tile.now.at.now (λ q xs. IsRefusedFirst q xs c.in_err-corner.field-0.0)
     (c.requires.its_order ∙ ap (λ (r : Rule). r.order) (sym c.checked-checked.ensures.rule))
     c.checked-checked.ensures.rule c.vertices-vertices.ensures.numbers
     (record {

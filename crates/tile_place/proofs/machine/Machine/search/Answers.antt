@@ -6,7 +6,7 @@ use Rattle.cyclo_points.specs.Point.{point_in}
 use Rattle.cyclo_points.specs.Motion.{motion_in}
 use Rattle.rule_model.specs.declared.rule.Rule.{Rule}
 use Rattle.rule_model.specs.Views.{rule_of}
-use Rattle.tile_place.specs.Searched.{values_in, holder_in, values_under, holder_under}
+use Rattle.tile_place.specs.Searched.{values_of_search, holder_of_search, values_under, holder_under}
 use Rattle.tile_place.proofs.FactorPowers.{power-read}
 use Rattle.tile_place.proofs.Parts.{holds_is}
 use Rattle.tile_place.proofs.Below.{power_refused, vertex_refused, past_outline, tile_same, same_found, same_fault}
@@ -81,12 +81,12 @@ inside c = sym c.if-not-member.false
     c.as_slice.result.now _ c.args.point.now c.member.result
     c.as_slice.ensures.value c.in-Ok-outline.ensures.vertices c.member.ensures
 
-values : (c : After-descend) → find (is_refused c.args.self.now.order) (values_in c.args.self.now c.args.whole.now c.args.point.now)
+values : (c : After-descend) → find (is_refused c.args.self.now.order) (values_of_search c.args.self.now c.args.whole.now c.args.point.now)
     ≡ find (is_refused c.args.self.now.order) (values_under c.args.self.now c.args.whole.now c.args.point.now)
 values c = past_outline (points_of c.args.self.now.order) (rule_of c.args.self.now) (is_refused c.args.self.now.order)
     c.args.whole.now.kind c.args.whole.now.depth _ _ _ (at_depth c) true (inside c) c.in-Ok.ensures.none_refused c.in-Ok-outline.ensures.none_refused
 
-tile : (c : After-descend) → holder_in c.args.self.now c.args.whole.now c.args.point.now
+tile : (c : After-descend) → holder_of_search c.args.self.now c.args.whole.now c.args.point.now
     ≡ holder_under c.args.self.now c.args.whole.now c.args.point.now
 tile c = tile_same (points_of c.args.self.now.order) (rule_of c.args.self.now) (is_refused c.args.self.now.order)
     c.args.whole.now.kind c.args.whole.now.depth _ _ _ (at_depth c) true (inside c)
@@ -94,13 +94,13 @@ tile c = tile_same (points_of c.args.self.now.order) (rule_of c.args.self.now) (
 pub returns-clause-found : goal.returns-clause-found
 returns-clause-found c =
     same_found c.args.self.now.order c.descend.result
-    (values_in c.args.self.now c.args.whole.now c.args.point.now) (values_under c.args.self.now c.args.whole.now c.args.point.now)
-    (holder_in c.args.self.now c.args.whole.now c.args.point.now) (holder_under c.args.self.now c.args.whole.now c.args.point.now)
+    (values_of_search c.args.self.now c.args.whole.now c.args.point.now) (values_under c.args.self.now c.args.whole.now c.args.point.now)
+    (holder_of_search c.args.self.now c.args.whole.now c.args.point.now) (holder_under c.args.self.now c.args.whole.now c.args.point.now)
     (values c) (tile c) c.descend.ensures.found
 
 pub returns-clause-fault : goal.returns-clause-fault
 returns-clause-fault c =
     same_fault c.args.self.now.order c.descend.result
-    (values_in c.args.self.now c.args.whole.now c.args.point.now) (values_under c.args.self.now c.args.whole.now c.args.point.now)
-    (holder_in c.args.self.now c.args.whole.now c.args.point.now) (holder_under c.args.self.now c.args.whole.now c.args.point.now)
+    (values_of_search c.args.self.now c.args.whole.now c.args.point.now) (values_under c.args.self.now c.args.whole.now c.args.point.now)
+    (holder_of_search c.args.self.now c.args.whole.now c.args.point.now) (holder_under c.args.self.now c.args.whole.now c.args.point.now)
     (values c) (tile c) c.descend.ensures.fault
