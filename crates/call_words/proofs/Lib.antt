@@ -1,5 +1,9 @@
 pub mod Commas
+pub mod CommaNumbers
 pub mod Pieces
+pub mod FormedValues
 pub mod RightWords
 pub mod OneMore
+pub mod RightOne
+pub mod ValuesWithin
 pub mod Within

@@ -1,12 +1,12 @@
 -- The search outward from the base of a frame: what was looked at up to a level, and what each way on answers.
-use Rattle.std.proofs.Common.{◌≡◌, ◌↔◌, ℕ, suc, ◌+◌, ◌-◌, ◌<◌, ◌≤◌, max, Bool, true, false, inl, inr, length, ◌∷◌, find, None, Some, Result, Ok, Err, IsOk, IfOk, IfErr, sym, ap, ◌∙◌, subst, arith}
+use Rattle.std.proofs.Common.{◌≡◌, ◌↔◌, ℕ, suc, ◌+◌, ◌-◌, ◌<◌, ◌≤◌, max, Bool, true, false, inl, inr, length, ◌∷◌, find, None, Some, Result, IsOk, IfErr, sym, ap, ◌∙◌, subst, arith}
 use Rattle.std.proofs.lemmas.Bool.{cases_lt}
 use Rattle.std.proofs.lemmas.Result.{IfErr-weaker, IfOk-weaker}
 use Rattle.theory_addresses.specs.Address.{Address}
 use Rattle.theory_substitution.specs.Points.{Points}
 use Rattle.theory_substitution.specs.Rule.{Rule as TheRule}
 use Rattle.cyclo_points.specs.declared.order.Order.{Order}
-use Rattle.cyclo_points.specs.Point.{point_in, IsOf}
+use Rattle.cyclo_points.specs.Point.{point_in}
 use Rattle.cyclo_points.specs.Order.{NumberOf, points_of, is_refused}
 use Rattle.theory_frames.specs.Contain.{ancestor_motion, ancestor_holds}
 use Rattle.theory_frames.specs.Laws.{AncestorLaw}
@@ -27,18 +27,12 @@ use Rattle.theory_walks.specs.Containing.{FrameHolds, first_refused_outward}
 use Rattle.theory_walks.specs.Frames.{FrameValue, at_depth, IsFrameOf, GrowsTo}
 use Rattle.theory_walks.proofs.Ancestors.{full-later}
 use Rattle.theory_walks.proofs.Walks.{GrowsTo-self, GrowsTo-then}
+use Rattle.tile_place.specs.Refused.{IsRefusedFirst, Visits}
 use Rattle.lazy_walk.specs.declared.ancestor.Ancestor.{Ancestor}
-use Rattle.lazy_walk.specs.Ancestors.{IsAncestor, IsNextOut}
+use Rattle.lazy_walk.specs.Ancestors.{IsAncestor, IsAncestorIn, IsNextOut}
 use Rattle.lazy_walk.specs.Contained.{IsRefusedOutward}
 use Rattle.lazy_walk.proofs.Aheads.{ahead, vertex_refused, held, onward, next_refused, next_passed, some_power_refused, zero-unrefused, exactly}
 use Rattle.lazy_walk.proofs.Leasts.{not_before}
-
--- a limit that is the first refused value is so as a point of its order
-refused_outward : (t : Tiling) (f : FrameValue) (p : NumberOf t.order) (r : Result PlacedTile CoordLimit)
-    → IfErr r (λ (limit : CoordLimit). first_refused_outward t f p ≡ Some (point_in t.order limit.value))
-    → IfErr r (λ (limit : CoordLimit). IsOf t.order limit.value) → IfErr r (IsRefusedOutward t f p)
-refused_outward t f p (Ok tile) first in_order = tt
-refused_outward t f p (Err limit) first in_order = record { first = first; in_order = in_order }
 
 -- the levels below this ancestor's were looked at: none of them holds the point, and nothing looked at is refused
 pub record IsOutward (m : Rule) (old : FrameValue) (p : NumberOf m.order) (now : FrameValue) (a : Ancestor) : Type 0 where
@@ -103,6 +97,9 @@ module _ {m : Rule} {old : FrameValue} {p : NumberOf m.order} {now : FrameValue}
   pub ancestor-now : IsAncestor t (full t now) a
   ancestor-now = subst (λ f. IsAncestor t f a) (sym same) inv.ancestor
 
+  pub ancestor-in : IsAncestorIn t now a
+  ancestor-in = record { frame = inv.grown.is_frame; deep = omega (arith, inv.least); is_ancestor = ancestor-now }
+
   -- not all powers up to 64 are within the limit
   pub few : IsAccepted m → a.level < 64
   few accepted = elim (cases_lt a.level 64) [
@@ -145,22 +142,18 @@ module _ {m : Rule} {old : FrameValue} {p : NumberOf m.order} {now : FrameValue}
         ∙ sym (held P r F p test a.level (64 - a.level) passed (subst (λ f. ancestor_holds P r f a.level p ≡ true) same h)) ∙ inv.values
 
     module _ (holds : ancestor_holds P r (full t now) a.level p ≡ true) (answer : Result PlacedTile CoordLimit)
-        (refused : IfErr answer (λ (limit : CoordLimit). find test (values_in t (full t now) p a.level) ≡ Some (point_in m.order limit.value))) where
-      inside_limit : IfErr answer (λ (limit : CoordLimit). first_refused_outward t old p ≡ Some (point_in m.order limit.value))
-      inside_limit = IfErr-weaker answer
-          (λ (limit : CoordLimit). find test (values_in t (full t now) p a.level) ≡ Some (point_in m.order limit.value))
-          (λ (limit : CoordLimit). first_refused_outward t old p ≡ Some (point_in m.order limit.value))
-          (λ limit h. sym (inside_is holds) ∙ h) refused
+        (visits : Visits m.order (values_in t (full t now) p a.level) answer) where
+      pub inside_refused : IfErr answer (IsRefusedOutward t old p)
+      inside_refused = IfErr-weaker answer (IsRefusedFirst m.order (values_in t (full t now) p a.level)) (IsRefusedOutward t old p)
+          (λ limit h. record { first = sym (inside_is holds) ∙ h.first; in_order = h.in_order }) visits.limit
 
-      pub inside_refused : IfErr answer (λ (limit : CoordLimit). IsOf m.order limit.value) → IfErr answer (IsRefusedOutward t old p)
-      inside_refused in_order = refused_outward t old p answer inside_limit in_order
-
-      pub inside_exactly : IfOk answer (λ (tile : PlacedTile). find test (values_in t (full t now) p a.level) ≡ None)
-          → IsOk answer ↔ (first_refused_outward t old p ≡ None)
-      inside_exactly none =
+      pub inside_exactly : IsOk answer ↔ (first_refused_outward t old p ≡ None)
+      inside_exactly =
           exactly answer (first_refused_outward t old p) (λ (limit : CoordLimit). point_in m.order limit.value)
           (IfOk-weaker answer (λ (tile : PlacedTile). find test (values_in t (full t now) p a.level) ≡ None)
-          (λ (tile : PlacedTile). first_refused_outward t old p ≡ None) (λ tile h. sym (inside_is holds) ∙ h) none) inside_limit
+          (λ (tile : PlacedTile). first_refused_outward t old p ≡ None) (λ tile h. sym (inside_is holds) ∙ h) visits.none_refused)
+          (IfErr-weaker answer (IsRefusedOutward t old p)
+          (λ (limit : CoordLimit). first_refused_outward t old p ≡ Some (point_in m.order limit.value)) (λ limit h. h.first) inside_refused)
 
     module _ (out : ancestor_holds P r (full t now) a.level p ≡ false) (accepted : IsAccepted m) where
       own_out : ancestor_holds P r F a.level p ≡ false

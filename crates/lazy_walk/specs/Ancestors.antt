@@ -7,7 +7,7 @@ use Rattle.cyclo_points.specs.Motion.{motion_in}
 use Rattle.theory_frames.specs.Contain.{ancestor_motion}
 use Rattle.rule_model.specs.Tiling.{Tiling}
 use Rattle.theory_walks.specs.Ancestors.{full, factor_power, values_of_level}
-use Rattle.theory_walks.specs.Frames.{FrameValue}
+use Rattle.theory_walks.specs.Frames.{FrameValue, IsFrameOf}
 use Rattle.lazy_walk.specs.declared.ancestor.Ancestor.{Ancestor}
 
 -- the program has found the ancestor at its level
@@ -19,6 +19,12 @@ pub record IsAncestor (t : Tiling) (f : Address) (a : Ancestor) : Type 0 where
   pub turn_below : a.motion.turn < (points_of t.order).order
   pub shift_within : IsWithin (2 ^ 24) a.motion.shift
   pub in_order : IsOf t.order a.motion.shift
+
+-- the program has found an ancestor that a frame has
+pub record IsAncestorIn (t : Tiling) (f : FrameValue) (a : Ancestor) : Type 0 where
+  pub frame : IsFrameOf t f
+  pub deep : a.level ≤ length f.digits
+  pub is_ancestor : IsAncestor t (full t f) a
 
 -- The next ancestor outward from this level, of a frame that was f and is g: the frame has grown to it,
 -- unless it was as deep already. Neither its power nor its shift is refused.

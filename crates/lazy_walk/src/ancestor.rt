@@ -1,5 +1,5 @@
 //! The supertiles around the base, level by level.
-ghost use Rattle.std.specs.Prelude.{◌≡◌, ◌+◌, ◌<◌, ◌≤◌, ◌^◌, true, false, length, IfOk, IfErr};
+ghost use Rattle.std.specs.Prelude.{◌≡◌, ◌+◌, ◌<◌, ◌^◌, true, false, IfOk, IfErr};
 ghost use Rattle.theory_addresses.specs.Address.{Address};
 ghost use Rattle.cyclo_points.specs.Order.{points_of, is_refused};
 ghost use Rattle.cyclo_points.specs.Point.{point_in, IsOf, IsWithin};
@@ -7,7 +7,8 @@ ghost use Rattle.cyclo_points.specs.Motion.{motion_in};
 ghost use Rattle.theory_frames.specs.Outward.{one_out_by};
 ghost use Rattle.rule_model.specs.Tiling.{Tiling, tiling_of, its_child};
 ghost use Rattle.rule_model.specs.Views.{rule_of};
-ghost use Rattle.theory_substitution.specs.Rule.{children_of};
+ghost use Rattle.tile_place.specs.Motions.{IsMotionOf};
+ghost use Rattle.tile_place.specs.Steps.{HasStep};
 ghost use Rattle.lazy_walk.specs.Ancestors.{IsAncestor};
 
 use cyclo_points::arithmetic::{refused, sub};
@@ -78,12 +79,9 @@ pub(crate) fn next_power(machine: &Machine, power: &Point) -> Result<Point, Coor
 /// Returns the motion of an ancestor's parent. The ancestor is its child by this digit, scaled by this power
 /// of the inflation factor.
 pub(crate) fn one_out(machine: &Machine, digit: Step, power: &Point, motion: &Motion) -> Motion
-    requires parent { digit.parent < length (rule_of machine.now).kinds }
-    requires child { digit.child < length (children_of (rule_of machine.now) digit.parent) }
+    requires step { HasStep (tiling_of machine.now) digit }
     requires power_within { IsWithin (2 ^ 24) power.now }
-    requires turn_below { motion.now.turn < (points_of machine.now.order).order }
-    requires within { IsWithin (2 ^ 24) motion.now.shift }
-    requires in_order { IsOf machine.now.order motion.now.shift }
+    requires moves { IsMotionOf machine.now.order (2 ^ 24) motion.now }
     ensures moved { motion_in machine.now.order result
         ≡ one_out_by (points_of machine.now.order) (point_in machine.now.order power.now)
         (motion_in machine.now.order motion.now)

@@ -1,13 +1,14 @@
 //! The tile of a frame that holds a point.
-ghost use Rattle.std.specs.Prelude.{◌≡◌, ◌↔◌, ◌<◌, ◌≤◌, ◌^◌, ℕ, true, find, None, Some, length, IsOk, IfOk, IfErr, OnOk};
-ghost use Rattle.cyclo_points.specs.Order.{points_of, is_refused};
-ghost use Rattle.cyclo_points.specs.Point.{point_in, IsOf, IsWithin};
+ghost use Rattle.std.specs.Prelude.{◌≡◌, ◌↔◌, ◌<◌, ◌≤◌, ◌^◌, ℕ, true, None, length, IsOk, IfOk, IfErr, OnOk};
+ghost use Rattle.cyclo_points.specs.Order.{points_of};
+ghost use Rattle.cyclo_points.specs.Point.{point_in, IsWithin};
 ghost use Rattle.theory_frames.specs.Contain.{ancestor_holds};
 ghost use Rattle.rule_model.specs.Tiling.{tiling_of};
 ghost use Rattle.rule_model.specs.Views.{rule_of};
+ghost use Rattle.tile_place.specs.Refused.{Visits};
 ghost use Rattle.tile_place.specs.Searched.{placed_in};
 ghost use Rattle.theory_walks.specs.Ancestors.{full, vertices_of_ancestor, values_in};
-ghost use Rattle.lazy_walk.specs.Ancestors.{IsAncestor};
+ghost use Rattle.lazy_walk.specs.Ancestors.{IsAncestorIn};
 ghost use Rattle.theory_walks.specs.Containing.{FrameHolds, IsOnlyHolder, first_refused_outward};
 ghost use Rattle.theory_walks.specs.Frames.{at_depth, IsFrameOf, GrowsTo};
 ghost use Rattle.lazy_walk.specs.Contained.{IsContained, IsRefusedOutward};
@@ -86,21 +87,13 @@ impl Frame {
         ancestor: &Ancestor,
         point: &Point,
     ) -> Result<bool, CoordLimit>
-        requires frame { IsFrameOf (tiling_of machine.now) self.now }
-        requires deep { ancestor.now.level ≤ length self.now.digits }
-        requires ancestor { IsAncestor (tiling_of machine.now) (full (tiling_of machine.now) self.now)
-            ancestor.now }
+        requires ancestor { IsAncestorIn (tiling_of machine.now) self.now ancestor.now }
         requires point_within { IsWithin (2 ^ 22) point.now }
         ensures holds { IfOk result (λ holds. ancestor_holds (points_of machine.now.order)
             (rule_of machine.now) (full (tiling_of machine.now) self.now) ancestor.now.level
             (point_in machine.now.order point.now) ≡ holds) }
-        ensures none_refused { IfOk result (λ _. find (is_refused machine.now.order)
-            (vertices_of_ancestor (tiling_of machine.now) (full (tiling_of machine.now) self.now)
-            ancestor.now.level) ≡ None) }
-        ensures limit { IfErr result (λ limit. find (is_refused machine.now.order)
-            (vertices_of_ancestor (tiling_of machine.now) (full (tiling_of machine.now) self.now)
-            ancestor.now.level) ≡ Some (point_in machine.now.order limit.value)) }
-        ensures limit_in_order { IfErr result (λ limit. IsOf machine.now.order limit.value) }
+        ensures visits { Visits machine.now.order (vertices_of_ancestor (tiling_of machine.now)
+            (full (tiling_of machine.now) self.now) ancestor.now.level) result }
     {
         let order = machine.checked().order();
         let kind = self.kind_of(machine, ancestor.level);
@@ -115,24 +108,16 @@ impl Frame {
         ancestor: &Ancestor,
         point: &Point,
     ) -> Result<PlacedTile, CoordLimit>
-        requires frame { IsFrameOf (tiling_of machine.now) self.now }
-        requires deep { ancestor.now.level ≤ length self.now.digits }
-        requires ancestor { IsAncestor (tiling_of machine.now) (full (tiling_of machine.now) self.now)
-            ancestor.now }
+        requires ancestor { IsAncestorIn (tiling_of machine.now) self.now ancestor.now }
         requires point_within { IsWithin (2 ^ 22) point.now }
         requires holds { ancestor_holds (points_of machine.now.order) (rule_of machine.now)
             (full (tiling_of machine.now) self.now) ancestor.now.level
             (point_in machine.now.order point.now) ≡ true }
         ensures contained { IfOk result (IsContained (tiling_of machine.now) self.now
             (point_in machine.now.order point.now)) }
-        ensures none_refused { IfOk result (λ _. find (is_refused machine.now.order)
-            (values_in (tiling_of machine.now) (full (tiling_of machine.now) self.now)
-            (point_in machine.now.order point.now) ancestor.now.level) ≡ None) }
-        ensures limit { IfErr result (λ limit. find (is_refused machine.now.order)
-            (values_in (tiling_of machine.now) (full (tiling_of machine.now) self.now)
-            (point_in machine.now.order point.now) ancestor.now.level)
-            ≡ Some (point_in machine.now.order limit.value)) }
-        ensures limit_in_order { IfErr result (λ limit. IsOf machine.now.order limit.value) }
+        ensures visits { Visits machine.now.order (values_in (tiling_of machine.now)
+            (full (tiling_of machine.now) self.now) (point_in machine.now.order point.now)
+            ancestor.now.level) result }
     {
         let order = machine.checked().order();
         points_law(order);

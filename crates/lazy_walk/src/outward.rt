@@ -6,10 +6,10 @@ ghost use Rattle.cyclo_points.specs.Point.{point_in, IsOf};
 ghost use Rattle.theory_frames.specs.Frame.{at_level};
 ghost use Rattle.rule_model.specs.Tiling.{tiling_of, children};
 ghost use Rattle.rule_model.specs.Views.{rule_of};
-ghost use Rattle.theory_substitution.specs.Rule.{children_of};
 ghost use Rattle.tile_shape.specs.Views.{step_of};
 ghost use Rattle.theory_walks.specs.Ancestors.{full, values_of_level};
 ghost use Rattle.lazy_walk.specs.Ancestors.{IsAncestor, IsNextOut};
+ghost use Rattle.tile_place.specs.Steps.{HasStep};
 ghost use Rattle.theory_walks.specs.Frames.{whole, IsFrameOf, GrowsTo};
 
 use crate::ancestor::{Ancestor, next_power, one_out};
@@ -40,8 +40,7 @@ impl Frame {
         requires deep { level < length self.now.digits }
         ensures digit { slice_get (full (tiling_of machine.now) self.now).digits level ≡ Some
             (step_of result) }
-        ensures parent { result.parent < length (rule_of machine.now).kinds }
-        ensures child { result.child < length (children_of (rule_of machine.now) result.parent) }
+        ensures step { HasStep (tiling_of machine.now) result }
     {
         grown_fits_law();
         let _usable = machine.checked().uses().kinds();

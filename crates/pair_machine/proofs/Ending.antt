@@ -10,7 +10,7 @@ use Rattle.pair_machine.specs.Between.{Pair}
 use Rattle.pair_machine.specs.Itself.{SomeMeetsItself}
 use Rattle.pair_machine.specs.Kept.{ArePairsKept}
 use Rattle.pair_machine.specs.Reading.{same_steps, between_children, first_pairs, pairs_read}
-use Rattle.pair_machine.proofs.Leaving.{between-among, same_steps-true, same_steps-same}
+use Rattle.pair_machine.proofs.LeftOfRows.{between-among, same_steps-true, same_steps-same}
 
 none_among : (ps : List Pair) → ((p : Pair) → IsAmong p ps → ⊥) → ps ≡ []
 none_among [] h = refl

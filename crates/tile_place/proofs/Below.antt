@@ -18,7 +18,7 @@ use Rattle.cyclo_points.specs.Order.{NumberOf, is_refused}
 use Rattle.tile_place.specs.declared.locate_fault.LocateFault.{LocateFault}
 use Rattle.tile_place.specs.declared.locate_fault.LocateFault.TheVariants.{NotInside, CoordLimit}
 use Rattle.tile_place.specs.declared.placed_tile.PlacedTile.{PlacedTile}
-use Rattle.tile_place.specs.Searched.{placed_in, IsSearchFault}
+use Rattle.tile_place.specs.Searched.{IsFoundTile, IsSearchFault}
 use Rattle.tile_place.proofs.Values.{find-append_found}
 use Rattle.tile_place.proofs.Holders.{find-front}
 
@@ -124,14 +124,11 @@ pub fault_same : (o : Order) (vs ws : List (NumberOf o)) (t u : Option (Placed (
 fault_same o vs ws t u e f NotInside h = (e ∙ h.0, f ∙ h.1)
 fault_same o vs ws t u e f (CoordLimit v) h = (e ∙ h.0, h.1)
 
-pub same_tile : (o : Order) (x : Result PlacedTile LocateFault) (t u : Option (Placed (NumberOf o))) → t ≡ u
-    → IfOk x (λ tile. u ≡ Some (placed_in o tile)) → IfOk x (λ tile. t ≡ Some (placed_in o tile))
-same_tile o x t u e h = IfOk-weaker x (λ tile. u ≡ Some (placed_in o tile)) (λ tile. t ≡ Some (placed_in o tile)) (λ tile k. e ∙ k) h
-
-pub same_none : (o : Order) (x : Result PlacedTile LocateFault) (vs ws : List (NumberOf o))
-    → find (is_refused o) vs ≡ find (is_refused o) ws → IfOk x (λ tile. find (is_refused o) ws ≡ None)
-    → IfOk x (λ tile. find (is_refused o) vs ≡ None)
-same_none o x vs ws e h = IfOk-weaker x (λ tile. find (is_refused o) ws ≡ None) (λ tile. find (is_refused o) vs ≡ None) (λ tile k. e ∙ k) h
+pub same_found : (o : Order) (x : Result PlacedTile LocateFault) (vs ws : List (NumberOf o))
+    (t u : Option (Placed (NumberOf o))) → find (is_refused o) vs ≡ find (is_refused o) ws → t ≡ u
+    → IfOk x (IsFoundTile o ws u) → IfOk x (IsFoundTile o vs t)
+same_found o x vs ws t u e f h = IfOk-weaker x (IsFoundTile o ws u) (IsFoundTile o vs t)
+    (λ tile k. record { holder = f ∙ k.holder; its_kind = k.its_kind; moves = k.moves; none_refused = e ∙ k.none_refused }) h
 
 pub same_fault : (o : Order) (x : Result PlacedTile LocateFault) (vs ws : List (NumberOf o))
     (t u : Option (Placed (NumberOf o))) → find (is_refused o) vs ≡ find (is_refused o) ws → t ≡ u

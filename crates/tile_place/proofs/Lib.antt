@@ -1,5 +1,6 @@
 pub mod Children
 pub mod Values
+pub mod Visits
 pub mod Start
 mod Finer
 mod Descent
@@ -7,6 +8,7 @@ pub mod KindEdges
 pub mod Plane
 pub mod SamePoint
 mod GreatestTurns
+mod Rows
 mod TurnedPlaces
 mod Gluing
 pub mod Ahead

@@ -1,5 +1,5 @@
 -- What the search from the top down finds is the only tile that holds the point.
-use Rattle.std.proofs.Common.{◌≡◌, ◌↔◌, ℕ, ◌<◌, true, cond, length, find, None, Some, Result, Ok, Err, IsOk, IfOk, IfErr, refl, sym, ap, ◌∙◌, subst}
+use Rattle.std.proofs.Common.{◌≡◌, ◌↔◌, ℕ, ◌<◌, true, cond, length, None, Some, Result, Ok, Err, IsOk, IfOk, IfErr, refl, sym, ap, ◌∙◌, subst}
 use Rattle.std.proofs.lemmas.Simd.{map-map}
 use Rattle.theory_addresses.specs.Address.{depth, Fits}
 use Rattle.theory_addresses.specs.Search.{IsAmong}
@@ -22,7 +22,7 @@ use Rattle.theory_frames.specs.Looked.{values_looked_at}
 use Rattle.theory_frames.proofs.Carried.{held}
 use Rattle.theory_frames.proofs.Fitting.{IsFitting, supertile-fits}
 use Rattle.theory_frames.proofs.Located.{IsMoved, IsMoved-depth, tile_below-moved, tile_below-some, tile_below-holds}
-use Rattle.cyclo_points.specs.Order.{NumberOf, PointsLaw, points_of, is_refused}
+use Rattle.cyclo_points.specs.Order.{NumberOf, PointsLaw, points_of}
 use Rattle.rule_model.specs.declared.rule.Rule.{Rule}
 use Rattle.rule_model.specs.Tiling.{tiling_of, children, MotionOf}
 use Rattle.rule_model.specs.Views.{rule_of}
@@ -30,7 +30,7 @@ use Rattle.tile_place.specs.declared.placed_tile.PlacedTile.{PlacedTile}
 use Rattle.tile_place.specs.declared.locate_fault.LocateFault.{LocateFault}
 use Rattle.tile_place.specs.declared.locate_fault.LocateFault.TheVariants.{NotInside, CoordLimit}
 use Rattle.tile_place.specs.Located.{moved_tiles, IsOnlyTileHolding, HasInside, first_refused_looked_at, IsCauseOf}
-use Rattle.tile_place.specs.Searched.{placed_in, IsSearchFault}
+use Rattle.tile_place.specs.Searched.{placed_in, IsFoundTile, IsSearchFault}
 use Rattle.tile_place.proofs.Plane.{IsSettled, its_rule}
 use Rattle.tile_place.proofs.Held.{IsDissected, has_holders, only_one}
 
@@ -95,8 +95,8 @@ module _ (m : Rule) (settled : IsSettled m) (W : PointsLaw m.order) (law : Disse
             ∙ tile_below-holds P W r k n at p t (inside t e) found
 
   -- ---- the answer
-  module _ (x : Result PlacedTile LocateFault) (holder : IfOk x (λ tile. tile_holding P r k n at p ≡ Some (placed_in m.order tile)))
-      (none : IfOk x (λ _. find (is_refused m.order) (values_looked_at P r k n at p) ≡ None))
+  module _ (x : Result PlacedTile LocateFault)
+      (found : IfOk x (IsFoundTile m.order (values_looked_at P r k n at p) (tile_holding P r k n at p)))
       (fault : IfErr x (IsSearchFault m.order (values_looked_at P r k n at p)
       (tile_holding P r k n at p))) where
     cause_of : (f : LocateFault) → IsSearchFault m.order (values_looked_at P r k n at p)
@@ -115,23 +115,23 @@ module _ (m : Rule) (settled : IsSettled m) (W : PointsLaw m.order) (law : Disse
 
     -- it is a tile exactly where no value is refused and the supertile holds the point
     pub found_exactly : IsOk x ↔ ((first_refused_looked_at (tiling_of m) k n at p ≡ None) × HasInside (tiling_of m) k n at p)
-    found_exactly = by x holder none causes
+    found_exactly = by x found causes
       where
-        by : (x : Result PlacedTile LocateFault) → IfOk x (λ tile. tile_holding P r k n at p ≡ Some (placed_in m.order tile))
-            → IfOk x (λ _. find (is_refused m.order) (values_looked_at P r k n at p) ≡ None) → IfErr x (IsCauseOf (tiling_of m) k n at p)
+        by : (x : Result PlacedTile LocateFault) → IfOk x (IsFoundTile m.order (values_looked_at P r k n at p) (tile_holding P r k n at p))
+            → IfErr x (IsCauseOf (tiling_of m) k n at p)
             → IsOk x ↔ ((first_refused_looked_at (tiling_of m) k n at p ≡ None) × HasInside (tiling_of m) k n at p)
-        by (Ok t) h e c = (λ _. (e, inside (placed_in m.order t) h), λ _. refl)
-        by (Err NotInside) h e c = (λ u. absurd (cc u), λ f. absurd (c.1 f.1))
-        by (Err (CoordLimit v)) h e c = (λ u. absurd (cc u), λ f. absurd (cc (sym f.0 ∙ c.0)))
+        by (Ok t) h c = (λ _. (h.none_refused, inside (placed_in m.order t) h.holder), λ _. refl)
+        by (Err NotInside) h c = (λ u. absurd (cc u), λ f. absurd (c.1 f.1))
+        by (Err (CoordLimit v)) h c = (λ u. absurd (cc u), λ f. absurd (cc (sym f.0 ∙ c.0)))
 
     -- and NotInside exactly where none is refused and it doesn't
     pub not_inside : (x ≡ Err NotInside) ↔ ((first_refused_looked_at (tiling_of m) k n at p ≡ None) × (¬ HasInside (tiling_of m) k n at p))
-    not_inside = by x holder causes
+    not_inside = by x found causes
       where
         by : (x : Result PlacedTile LocateFault)
-            → IfOk x (λ tile. tile_holding P r k n at p ≡ Some (placed_in m.order tile))
+            → IfOk x (IsFoundTile m.order (values_looked_at P r k n at p) (tile_holding P r k n at p))
             → IfErr x (IsCauseOf (tiling_of m) k n at p)
             → (x ≡ Err NotInside) ↔ ((first_refused_looked_at (tiling_of m) k n at p ≡ None) × (¬ HasInside (tiling_of m) k n at p))
-        by (Ok t) h c = (λ e. absurd (cc e), λ f. absurd (f.1 (inside (placed_in m.order t) h)))
+        by (Ok t) h c = (λ e. absurd (cc e), λ f. absurd (f.1 (inside (placed_in m.order t) h.holder)))
         by (Err NotInside) h c = (λ _. c, λ _. refl)
         by (Err (CoordLimit v)) h c = (λ e. absurd (cc e), λ f. absurd (cc (sym f.0 ∙ c.0)))

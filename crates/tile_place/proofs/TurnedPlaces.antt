@@ -3,7 +3,6 @@ use Rattle.std.proofs.Common.{◌≡◌, inl, inr, ℕ, zero, suc, ◌+◌, ◌*
 use Rattle.std.proofs.lemmas.Bool.{cases_lt, le-ltb, lt-ltb}
 use Rattle.std.proofs.lemmas.Nat.{div-mul-add, mod-mul-add}
 use Rattle.std.proofs.Math.ListN.{get_or-append}
-use Rattle.std.proofs.Math.Nat.{suc-mul, mul-le-mul_right}
 use Rattle.std.proofs.Math.Seq.{get_or-append_seam}
 use Rattle.theory_ring.specs.Ring.{difference, power}
 use Rattle.theory_ring.proofs.Normaliser.{var, ring, ◌⊖◌, ◌⊗◌}
@@ -23,25 +22,7 @@ use Rattle.rule_model.specs.Views.{rule_of}
 use Rattle.tile_place.specs.Corners.{IsCorner}
 use Rattle.tile_place.specs.EdgeTurns.{EdgeTable, IsGreatest, AreGreatest}
 use Rattle.tile_place.specs.TurnedVertices.{TurnedTable, turned_by, place_of, IsTurned, AreTurned}
-
--- the place of row a and column b
-pub in-row : (w a b h : ℕ) → a < h → b < w → a * w + b < h * w
-in-row w a b h l m =
-    let k : suc a * w ≤ h * w = mul-le-mul_right w (omega (arith, l)) in
-    let n : suc a * w ≡ a * w + w = suc-mul a w in
-    omega (arith, m, k, n)
-
--- one place, so one row and one column
-pub same-row : (w a b c d : ℕ) → b < w → d < w → a * w + b ≡ c * w + d → a ≡ c
-same-row w a b c d f g e = sym (div-mul-add a w b f) ∙ ap (λ i. i / w) e ∙ div-mul-add c w d g
-
-pub same-column : (w a b c d : ℕ) → b < w → d < w → a * w + b ≡ c * w + d → b ≡ d
-same-column w a b c d f g e = sym (mod-mul-add a w b f) ∙ ap (λ i. i % w) e ∙ mod-mul-add c w d g
-
-get_or-map : {A B : Type 0} (f : A → B) (xs : List A) (i : ℕ) (d : A) (e : B) → i < length xs → get_or (map f xs) i e ≡ f (get_or xs i d)
-get_or-map f [] i d e h = absurd (omega (arith, h))
-get_or-map f (x ∷ xs) zero d e h = refl
-get_or-map f (x ∷ xs) (suc i) d e h = get_or-map f xs i d e (omega (arith, h))
+use Rattle.tile_place.proofs.Rows.{in-row, same-row, same-column, get_or-map}
 
 -- a vertex of a kind, turned
 pub turned-is : (m : Rule) (vs : List Point) (kind steps i : ℕ) (p : Point) → map (point_in m.order) vs ≡ vertices_of (rule_of m) kind → i < length vs

@@ -3,12 +3,21 @@
 use Rattle.std.specs.Prelude.{◌≡◌, ℕ, ◌+◌, ◌*◌, ◌<◌, ◌≤◌, false, List, length, get_or}
 use Rattle.std.specs.Cmp.Lexicographic.{slice_cmp}
 use Rattle.std.specs.Ordering.{int_cmp, is_gt}
-use Rattle.theory_substitution.specs.RuleParts.{edge_count}
+use Rattle.theory_substitution.specs.RuleParts.{edge_count, next}
 use Rattle.theory_edge_to_edge.specs.EdgeTypes.{edge_vector}
 use Rattle.cyclo_points.specs.declared.order.Order.{Order}
 use Rattle.cyclo_points.specs.Order.{NumberOf, points_of, coefficients}
+use Rattle.rule_model.specs.declared.rule.Rule.{Rule}
 use Rattle.rule_model.specs.Tiling.{Tiling}
+use Rattle.rule_model.specs.Views.{rule_of}
+use Rattle.tile_place.specs.declared.prototile_edge.PrototileEdge.{PrototileEdge}
 use Rattle.tile_place.specs.TurnedVertices.{turned_by}
+
+-- a kind of the rule has this edge, which ends at the next vertex
+pub record IsEdgeOf (m : Rule) (edge : PrototileEdge) : Type 0 where
+  pub kind_exists : edge.kind < length (rule_of m).kinds
+  pub edge_exists : edge.start < edge_count (rule_of m) edge.kind
+  pub ends : edge.end ≡ next (rule_of m) edge.kind edge.start
 
 -- of all turns below the order, the one by ζ^k makes z greatest: no other has a greater coefficient at the
 -- first place at which they differ

@@ -1,10 +1,14 @@
 pub mod Placing
+pub mod Steps
 pub mod Crossed
 pub mod Glued
 pub mod TurnedVertices
+pub mod TurnedEdges
 pub mod EdgeTurns
 pub mod Corners
 pub mod Machine
+pub mod Refused
+pub mod Inflated
 pub mod Parts
 pub mod Searched
 pub mod Located

@@ -1,5 +1,5 @@
 -- The vertices of all kinds, turned by all numbers of steps below the order, in one list.
-use Rattle.std.specs.Prelude.{◌≡◌, ℕ, ◌+◌, ◌*◌, ◌<◌, ◌≤◌, ◌^◌, List, length, get_or}
+use Rattle.std.specs.Prelude.{◌≡◌, ℕ, ◌+◌, ◌*◌, ◌<◌, ◌≤◌, ◌^◌, List, length, map, get_or}
 use Rattle.theory_ring.specs.Ring.{power}
 use Rattle.theory_substitution.specs.RuleParts.{edge_count, vertex}
 use Rattle.cyclo_points.specs.declared.order.Order.{Order}
@@ -29,6 +29,11 @@ pub record TurnedTable : Type 0 where
   pub sides : ℕ
   pub turns : ℕ
   pub points : List Point
+
+-- such a table in the turns of an order, of these points
+abbrev pub turned_table : Order → ℕ → List SmallPoint → TurnedTable
+turned_table o sides points =
+    record { sides = sides; turns = (points_of o).order; points = map widened points }
 
 -- the place of vertex number e of a kind, turned by this number of steps
 abbrev pub place_of : TurnedTable → ℕ → ℕ → ℕ → ℕ

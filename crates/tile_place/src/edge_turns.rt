@@ -1,14 +1,15 @@
 //! The turns of edges.
 ghost use Rattle.std.specs.Prelude.{◌≡◌, ◌+◌, ◌*◌, ◌<◌, suc, length, get_or, cond, nat_lt, IfOk};
-ghost use Rattle.theory_substitution.specs.RuleParts.{edge_count, next};
+ghost use Rattle.theory_substitution.specs.RuleParts.{edge_count};
 ghost use Rattle.theory_edge_to_edge.specs.EdgeTypes.{edge_vector};
 ghost use Rattle.cyclo_points.specs.Order.{points_of, coefficients};
 ghost use Rattle.rule_model.specs.Tiling.{tiling_of};
 ghost use Rattle.rule_model.specs.Views.{rule_of};
-ghost use Rattle.tile_place.specs.EdgeTurns.{IsGreatest, AreGreatest};
+ghost use Rattle.tile_place.specs.EdgeTurns.{IsEdgeOf, IsGreatest, AreGreatest};
 ghost use Rattle.tile_place.specs.TurnedVertices.{turned_by, AreTurned};
 
 use crate::compared::is_above;
+use crate::prototile_edge::PrototileEdge;
 use crate::turned_vertices::TurnedVertices;
 use cyclo_points::arithmetic::sub;
 use cyclo_points::point::Point;
@@ -68,40 +69,33 @@ impl EdgeTurns {
 }
 
 /// Returns the turn by which the vector of an edge becomes greatest, or 0 if the edge does not exist.
-fn turn_if_edge(checked: &Checked, vertices: &TurnedVertices, kind: u8, edge: usize) -> u8
+fn turn_if_edge(checked: &Checked, vertices: &TurnedVertices, kind: u8, start: usize) -> u8
     requires vertices { AreTurned (tiling_of checked.now) vertices.now }
     requires exists { kind < length (rule_of checked.now).kinds }
-    ensures { edge < edge_count (rule_of checked.now) kind
+    ensures { start < edge_count (rule_of checked.now) kind
         → IsGreatest checked.now.order (edge_vector (points_of checked.now.order) (rule_of checked.now) kind
-        edge) result }
+        start) result }
 {
     let edges = checked.vertices(kind).len();
-    if edge < edges {
-        greatest_turn(checked, vertices, kind, edge, next_of(edges, edge))
+    if start < edges {
+        let end = next_of(edges, start);
+        greatest_turn(checked, vertices, PrototileEdge { kind, start, end })
     } else {
         0
     }
 }
 
-/// Returns the turn by which the vector of the edge that ends at this vertex becomes greatest.
-fn greatest_turn(
-    checked: &Checked,
-    vertices: &TurnedVertices,
-    kind: u8,
-    edge: usize,
-    end: usize,
-) -> u8
+/// Returns the turn by which the vector of an edge becomes greatest.
+fn greatest_turn(checked: &Checked, vertices: &TurnedVertices, edge: PrototileEdge) -> u8
     requires vertices { AreTurned (tiling_of checked.now) vertices.now }
-    requires exists { kind < length (rule_of checked.now).kinds }
-    requires edge_exists { edge < edge_count (rule_of checked.now) kind }
-    requires end { end ≡ next (rule_of checked.now) kind edge }
+    requires edge { IsEdgeOf checked.now edge }
     ensures { IsGreatest checked.now.order (edge_vector (points_of checked.now.order) (rule_of checked.now)
-        kind edge) result }
+        edge.kind edge.start) result }
 {
     let mut best = 0;
     for steps in 1..checked.order().n() {
-        let vector = turned_vector(checked, vertices, kind, steps, edge, end);
-        let greatest = turned_vector(checked, vertices, kind, best, edge, end);
+        let vector = turned_vector(checked, vertices, edge, steps);
+        let greatest = turned_vector(checked, vertices, edge, best);
         if is_above(&vector, &greatest) {
             best = steps;
         }
@@ -109,27 +103,23 @@ fn greatest_turn(
     best
 }
 
-/// Returns the vector of the edge that ends at this vertex, turned by ζ^steps.
+/// Returns the vector of an edge, turned by ζ^steps.
 fn turned_vector(
     checked: &Checked,
     vertices: &TurnedVertices,
-    kind: u8,
+    edge: PrototileEdge,
     steps: u8,
-    edge: usize,
-    end: usize,
 ) -> Point
     requires vertices { AreTurned (tiling_of checked.now) vertices.now }
-    requires exists { kind < length (rule_of checked.now).kinds }
+    requires edge { IsEdgeOf checked.now edge }
     requires turn_below { steps < (points_of checked.now.order).order }
-    requires edge_exists { edge < edge_count (rule_of checked.now) kind }
-    requires end { end ≡ next (rule_of checked.now) kind edge }
     ensures { result.c ≡ coefficients checked.now.order
         (turned_by checked.now.order steps (edge_vector (points_of checked.now.order) (rule_of checked.now)
-        kind edge)) }
+        edge.kind edge.start)) }
 {
     points_law(checked.order());
-    let to = vertices.at(kind, steps, end);
-    let from = vertices.at(kind, steps, edge);
+    let to = vertices.at(edge.kind, steps, edge.end);
+    let from = vertices.at(edge.kind, steps, edge.start);
     sub(&to, &from)
 }
 

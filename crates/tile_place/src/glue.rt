@@ -9,6 +9,7 @@ ghost use Rattle.theory_dissection.specs.Glue.{TurnsOnto};
 ghost use Rattle.rule_model.specs.Tiling.{tiling_of};
 ghost use Rattle.rule_model.specs.Views.{rule_of};
 ghost use Rattle.tile_place.specs.Glued.{HasKindEdge, Meets, Glues, IsMotionAcross, GluingLaw};
+ghost use Rattle.tile_place.specs.TurnedEdges.{HasTurnedEdge};
 ghost use Rattle.tile_place.specs.TurnedVertices.{turned_by, IsTurned};
 
 use crate::compared::is_same;
@@ -23,8 +24,7 @@ use theory_dissection::laws::glue_law;
 impl Machine {
     /// Returns the vertex at which an edge begins, turned by ζ^steps.
     fn start_of(&self, kind: u8, edge: u8, steps: u8) -> Point
-        requires exists { HasKindEdge (tiling_of self.now) kind edge }
-        requires turn_below { steps < (points_of self.now.order).order }
+        requires turned_edge { HasTurnedEdge (tiling_of self.now) kind edge steps }
         ensures { IsTurned (tiling_of self.now) kind steps edge result }
     {
         self.turned_vertex(kind, steps, usize::from(edge))
@@ -32,8 +32,7 @@ impl Machine {
 
     /// Returns the vertex at which an edge ends, turned by ζ^steps.
     fn end_of(&self, kind: u8, edge: u8, steps: u8) -> Point
-        requires exists { HasKindEdge (tiling_of self.now) kind edge }
-        requires turn_below { steps < (points_of self.now.order).order }
+        requires turned_edge { HasTurnedEdge (tiling_of self.now) kind edge steps }
         ensures { IsTurned (tiling_of self.now) kind steps (next (rule_of self.now) kind edge) result }
     {
         let end = next_of(self.checked().vertices(kind).len(), usize::from(edge));
@@ -42,8 +41,7 @@ impl Machine {
 
     /// Returns the vector of an edge, turned by ζ^steps.
     fn vector_of(&self, kind: u8, edge: u8, steps: u8) -> Point
-        requires exists { HasKindEdge (tiling_of self.now) kind edge }
-        requires turn_below { steps < (points_of self.now.order).order }
+        requires turned_edge { HasTurnedEdge (tiling_of self.now) kind edge steps }
         ensures vector { point_in self.now.order result
             ≡ turned_by self.now.order steps (edge_vector (points_of self.now.order) (rule_of self.now) kind
             edge) }

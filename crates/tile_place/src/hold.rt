@@ -1,14 +1,14 @@
 //! Tests if a prototile that is scaled and moved holds a point, one vertex after another.
-ghost use Rattle.std.specs.Prelude.{◌≡◌, ◌<◌, ◌≤◌, ◌^◌, ◌&&◌, pos, true, false, length, find, None, Some, IfOk, IfErr};
+ghost use Rattle.std.specs.Prelude.{◌≡◌, ◌^◌, ◌&&◌, pos, true, false, IfOk, IfErr, MatchResult};
 ghost use Rattle.std.specs.Ordering.{int_eq};
-ghost use Rattle.theory_frames.specs.Outline.{outline, holds_point};
 ghost use Rattle.cyclo_points.specs.Order.{points_of, is_refused};
 ghost use Rattle.cyclo_points.specs.Point.{point_in, IsOf, IsWithin};
-ghost use Rattle.cyclo_points.specs.Motion.{motion_in};
-ghost use Rattle.rule_model.specs.Views.{rule_of};
+ghost use Rattle.tile_place.specs.Inflated.{IsInflatedTile, outline_in, do_hold};
 ghost use Rattle.tile_place.specs.Motions.{IsMotionOf};
+ghost use Rattle.tile_place.specs.Refused.{Visits};
 
 use crate::coord_limit::CoordLimit;
+use crate::inflated_tile::InflatedTile;
 use crate::machine::Machine;
 use cyclo_points::arithmetic::{add, refused};
 use cyclo_points::motion::Motion;
@@ -24,35 +24,22 @@ impl Machine {
     /// and the polygon holds the point. Err has the first vertex that is refused.
     pub(crate) fn holds_where(
         &self,
-        sought: bool,
-        kind: u8,
-        scale: &Point,
-        at: &Motion,
+        tile: &InflatedTile<'_>,
         point: &Point,
+        sought: bool,
     ) -> Result<bool, CoordLimit>
-        requires exists { kind < length (rule_of self.now).kinds }
-        requires scale_within { IsWithin (2 ^ 24) scale.now }
-        requires moves { IsMotionOf self.now.order (2 ^ 24) at.now }
+        requires tile { IsInflatedTile self.now tile.now }
         requires point_within { IsWithin (2 ^ 24) point.now }
-        ensures holds { IfOk result (λ holds. holds ≡ (sought && holds_point (points_of self.now.order)
-            (outline (points_of self.now.order) (rule_of self.now) kind (point_in self.now.order scale.now)
-            (motion_in self.now.order at.now))
-            (point_in self.now.order point.now))) }
-        ensures none_refused { IfOk result (λ _. find (is_refused self.now.order)
-            (outline (points_of self.now.order) (rule_of self.now) kind (point_in self.now.order scale.now)
-            (motion_in self.now.order at.now)) ≡ None) }
-        ensures limit { IfErr result (λ limit. find (is_refused self.now.order)
-            (outline (points_of self.now.order) (rule_of self.now) kind (point_in self.now.order scale.now)
-            (motion_in self.now.order at.now))
-            ≡ Some (point_in self.now.order limit.value)) }
-        ensures limit_in_order { IfErr result (λ limit. IsOf self.now.order limit.value) }
+        ensures holds { IfOk result (λ holds. holds
+            ≡ (sought && do_hold self.now (outline_in self.now tile.now) point.now)) }
+        ensures visits { Visits self.now.order (outline_in self.now tile.now) result }
     {
         let order = self.checked().order();
         match order {
-            Order::Four => self.holds_in(Order::Four, sought, kind, scale, at, point),
-            Order::Six => self.holds_in(Order::Six, sought, kind, scale, at, point),
-            Order::Eight => self.holds_in(Order::Eight, sought, kind, scale, at, point),
-            Order::Ten => self.holds_in(Order::Ten, sought, kind, scale, at, point),
+            Order::Four => self.holds_in(Order::Four, tile, point, sought),
+            Order::Six => self.holds_in(Order::Six, tile, point, sought),
+            Order::Eight => self.holds_in(Order::Eight, tile, point, sought),
+            Order::Ten => self.holds_in(Order::Ten, tile, point, sought),
         }
     }
 
@@ -62,34 +49,21 @@ impl Machine {
     fn holds_in(
         &self,
         order: Order,
-        sought: bool,
-        kind: u8,
-        scale: &Point,
-        at: &Motion,
+        tile: &InflatedTile<'_>,
         point: &Point,
+        sought: bool,
     ) -> Result<bool, CoordLimit>
         requires its_order { order ≡ self.now.order }
-        requires exists { kind < length (rule_of self.now).kinds }
-        requires scale_within { IsWithin (2 ^ 24) scale.now }
-        requires moves { IsMotionOf self.now.order (2 ^ 24) at.now }
+        requires tile { IsInflatedTile self.now tile.now }
         requires point_within { IsWithin (2 ^ 24) point.now }
-        ensures holds { IfOk result (λ holds. holds ≡ (sought && holds_point (points_of self.now.order)
-            (outline (points_of self.now.order) (rule_of self.now) kind (point_in self.now.order scale.now)
-            (motion_in self.now.order at.now))
-            (point_in self.now.order point.now))) }
-        ensures none_refused { IfOk result (λ _. find (is_refused self.now.order)
-            (outline (points_of self.now.order) (rule_of self.now) kind (point_in self.now.order scale.now)
-            (motion_in self.now.order at.now)) ≡ None) }
-        ensures limit { IfErr result (λ limit. find (is_refused self.now.order)
-            (outline (points_of self.now.order) (rule_of self.now) kind (point_in self.now.order scale.now)
-            (motion_in self.now.order at.now))
-            ≡ Some (point_in self.now.order limit.value)) }
-        ensures limit_in_order { IfErr result (λ limit. IsOf self.now.order limit.value) }
+        ensures holds { IfOk result (λ holds. holds
+            ≡ (sought && do_hold self.now (outline_in self.now tile.now) point.now)) }
+        ensures visits { Visits self.now.order (outline_in self.now tile.now) result }
     {
         if sought {
-            self.holds(order, kind, scale, at, point)
+            self.holds(order, tile, point)
         } else {
-            self.look_round(order, kind, scale, at)
+            self.look_round(order, tile)
         }
     }
 
@@ -99,40 +73,27 @@ impl Machine {
     fn holds(
         &self,
         order: Order,
-        kind: u8,
-        scale: &Point,
-        at: &Motion,
+        tile: &InflatedTile<'_>,
         point: &Point,
     ) -> Result<bool, CoordLimit>
         requires its_order { order ≡ self.now.order }
-        requires exists { kind < length (rule_of self.now).kinds }
-        requires scale_within { IsWithin (2 ^ 24) scale.now }
-        requires moves { IsMotionOf self.now.order (2 ^ 24) at.now }
+        requires tile { IsInflatedTile self.now tile.now }
         requires point_within { IsWithin (2 ^ 24) point.now }
-        ensures holds { IfOk result (λ holds. holds ≡ holds_point (points_of self.now.order)
-            (outline (points_of self.now.order) (rule_of self.now) kind (point_in self.now.order scale.now)
-            (motion_in self.now.order at.now))
-            (point_in self.now.order point.now)) }
-        ensures none_refused { IfOk result (λ _. find (is_refused self.now.order)
-            (outline (points_of self.now.order) (rule_of self.now) kind (point_in self.now.order scale.now)
-            (motion_in self.now.order at.now)) ≡ None) }
-        ensures limit { IfErr result (λ limit. find (is_refused self.now.order)
-            (outline (points_of self.now.order) (rule_of self.now) kind (point_in self.now.order scale.now)
-            (motion_in self.now.order at.now))
-            ≡ Some (point_in self.now.order limit.value)) }
-        ensures limit_in_order { IfErr result (λ limit. IsOf self.now.order limit.value) }
+        ensures holds { IfOk result (λ holds. holds
+            ≡ do_hold self.now (outline_in self.now tile.now) point.now) }
+        ensures visits { Visits self.now.order (outline_in self.now tile.now) result }
     {
         let checked = self.checked();
         points_law(order);
-        let turned = turn(order, at.turn, scale);
-        let vertices = checked.vertices(kind);
-        let first = corner(order, &turned, &vertices[0], &at.shift)?;
+        let turned = turn(order, tile.at.turn, tile.scale);
+        let vertices = checked.vertices(tile.kind);
+        let first = corner(order, &turned, &vertices[0], tile.at)?;
         let begins_above = is_above(order, &first, point);
         let mut from = first;
         let mut above = begins_above;
         let mut total = 0;
         for i in 1..vertices.len() {
-            let to = corner(order, &turned, &vertices[i], &at.shift)?;
+            let to = corner(order, &turned, &vertices[i], tile.at)?;
             let ends_above = is_above(order, &to, point);
             let crossed = crossing_between(order, &from, &to, point, above, ends_above);
             total += crossed as i32;
@@ -146,33 +107,18 @@ impl Machine {
     /// Visits the vertices of a prototile that is scaled and moved, and returns false. Err has the first
     /// vertex that is refused.
     #[inline(always)]
-    fn look_round(
-        &self,
-        order: Order,
-        kind: u8,
-        scale: &Point,
-        at: &Motion,
-    ) -> Result<bool, CoordLimit>
+    fn look_round(&self, order: Order, tile: &InflatedTile<'_>) -> Result<bool, CoordLimit>
         requires its_order { order ≡ self.now.order }
-        requires exists { kind < length (rule_of self.now).kinds }
-        requires scale_within { IsWithin (2 ^ 24) scale.now }
-        requires moves { IsMotionOf self.now.order (2 ^ 24) at.now }
+        requires tile { IsInflatedTile self.now tile.now }
         ensures is_false { IfOk result (λ holds. holds ≡ false) }
-        ensures none_refused { IfOk result (λ _. find (is_refused self.now.order)
-            (outline (points_of self.now.order) (rule_of self.now) kind (point_in self.now.order scale.now)
-            (motion_in self.now.order at.now)) ≡ None) }
-        ensures limit { IfErr result (λ limit. find (is_refused self.now.order)
-            (outline (points_of self.now.order) (rule_of self.now) kind (point_in self.now.order scale.now)
-            (motion_in self.now.order at.now))
-            ≡ Some (point_in self.now.order limit.value)) }
-        ensures limit_in_order { IfErr result (λ limit. IsOf self.now.order limit.value) }
+        ensures visits { Visits self.now.order (outline_in self.now tile.now) result }
     {
         let checked = self.checked();
         points_law(order);
-        let turned = turn(order, at.turn, scale);
-        let vertices = checked.vertices(kind);
+        let turned = turn(order, tile.at.turn, tile.scale);
+        let vertices = checked.vertices(tile.kind);
         for i in 0..vertices.len() {
-            let _ = corner(order, &turned, &vertices[i], &at.shift)?;
+            let _ = corner(order, &turned, &vertices[i], tile.at)?;
         }
         Ok(false)
     }
@@ -185,25 +131,22 @@ fn is_once(count: i32) -> bool
     count == 1
 }
 
-/// Returns a vertex times `scale`, plus `shift`, unless this is refused.
+/// Returns a vertex times `scale`, plus the shift, unless this is refused.
 #[inline(always)]
-fn corner(order: Order, scale: &Point, vertex: &Point, shift: &Point) -> Result<Point, CoordLimit>
+fn corner(order: Order, scale: &Point, vertex: &Point, at: &Motion) -> Result<Point, CoordLimit>
     requires scale_within { IsWithin (2 ^ 25) scale.now }
     requires vertex_within { IsWithin 64 vertex.now }
-    requires shift_within { IsWithin (2 ^ 24) shift.now }
-    requires shift_in_order { IsOf order shift.now }
-    ensures corner { IfOk result (λ corner. point_in order corner ≡ (points_of order).ring.add
+    requires moves { IsMotionOf order (2 ^ 24) at.now }
+    ensures place { let place = (points_of order).ring.add
         ((points_of order).ring.mul (point_in order scale.now) (point_in order vertex.now))
-        (point_in order shift.now)) }
-    ensures not_refused { IfOk result (λ corner. is_refused order (point_in order corner) ≡ false) }
+        (point_in order at.now.shift) in MatchResult result (λ corner. point_in order corner ≡ place)
+        (λ limit. point_in order limit.value ≡ place) }
+    ensures refused { MatchResult result (λ corner. is_refused order (point_in order corner) ≡ false)
+        (λ limit. is_refused order (point_in order limit.value) ≡ true) }
     ensures within { IfOk result (λ corner. IsWithin (2 ^ 24) corner) }
-    ensures limit { IfErr result (λ limit. point_in order limit.value ≡ (points_of order).ring.add
-        ((points_of order).ring.mul (point_in order scale.now) (point_in order vertex.now))
-        (point_in order shift.now)) }
-    ensures is_refused { IfErr result (λ limit. is_refused order (point_in order limit.value) ≡ true) }
     ensures limit_in_order { IfErr result (λ limit. IsOf order limit.value) }
 {
-    let corner = add(&mul(order, scale, vertex), shift);
+    let corner = add(&mul(order, scale, vertex), &at.shift);
     if refused(&corner) {
         return Err(CoordLimit { value: corner });
     }

@@ -16,6 +16,7 @@ ghost use Rattle.tile_place.specs.Searched.{placed_in};
 
 use crate::locate_fault::LocateFault;
 use crate::machine::Machine;
+use crate::moved_supertile::MovedSupertile;
 use crate::placed_tile::PlacedTile;
 use cyclo_points::motion::Motion;
 use cyclo_points::point::Point;
@@ -81,6 +82,6 @@ impl Machine {
         points_law(order);
         placement_law(order);
         dissection_law(order);
-        self.search(kind, depth, at, point)
+        self.search(&MovedSupertile { kind, depth, at }, point)
     }
 }

@@ -1,22 +1,21 @@
 //! Finds the child of a part of a supertile that holds a point.
-ghost use Rattle.std.specs.Prelude.{◌≡◌, ◌<◌, ◌≤◌, ◌^◌, ◌&&◌, All, length, find, None, Some, IfOk, IfErr, IfSome};
+ghost use Rattle.std.specs.Prelude.{◌≡◌, ◌^◌, ◌&&◌, IfOk, IfSome};
 ghost use Rattle.std.specs.Option.{option_map};
+ghost use Rattle.theory_addresses.specs.Search.{or_else};
 ghost use Rattle.theory_substitution.specs.Rule.{children_of};
 ghost use Rattle.theory_substitution.specs.RuleParts.{child_of};
-ghost use Rattle.theory_frames.specs.Outline.{outline, holds_point};
-ghost use Rattle.theory_frames.specs.Part.{child_motion, holder};
-ghost use Rattle.theory_frames.specs.Looked.{values_of_children};
-ghost use Rattle.cyclo_points.specs.Order.{points_of, is_refused};
-ghost use Rattle.cyclo_points.specs.Point.{point_in, IsOf, IsWithin};
+ghost use Rattle.theory_frames.specs.Looked.{values_of_child, values_of_children};
+ghost use Rattle.theory_frames.specs.Part.{child_part, holder};
+ghost use Rattle.cyclo_points.specs.Order.{points_of};
+ghost use Rattle.cyclo_points.specs.Point.{point_in, IsWithin};
 ghost use Rattle.cyclo_points.specs.Motion.{motion_in};
 ghost use Rattle.rule_model.specs.Views.{rule_of};
-ghost use Rattle.tile_place.specs.Motions.{IsMotionOf};
-ghost use Rattle.theory_addresses.specs.Search.{or_else};
-ghost use Rattle.theory_frames.specs.Part.{child_part};
-ghost use Rattle.theory_frames.specs.Looked.{values_of_child};
+ghost use Rattle.tile_place.specs.Inflated.{IsInflatedTile, outline_at, do_hold};
 ghost use Rattle.tile_place.specs.Parts.{part_in, HasChild, IsPart, if_holds};
+ghost use Rattle.tile_place.specs.Refused.{Visits};
 
 use crate::coord_limit::CoordLimit;
+use crate::inflated_tile::InflatedTile;
 use crate::machine::Machine;
 use crate::part::Part;
 use crate::seen::Seen;
@@ -31,51 +30,45 @@ impl Machine {
     /// `sought` is set and it holds the point. Err has the first value that is refused.
     pub(crate) fn look(
         &self,
-        kind: u8,
+        whole: &InflatedTile<'_>,
         number: u8,
-        scale: &Point,
-        at: &Motion,
         point: &Point,
         sought: bool,
     ) -> Result<Seen, CoordLimit>
-        requires child_exists { HasChild self.now kind number }
-        requires scale_within { IsWithin (2 ^ 24) scale.now }
-        requires moves { IsMotionOf self.now.order (2 ^ 24) at.now }
+        requires whole { IsInflatedTile self.now whole.now }
+        requires child_exists { HasChild self.now whole.now.kind number }
         requires point_within { IsWithin (2 ^ 24) point.now }
         ensures part { IfOk result (λ seen. part_in self.now.order seen.part
-            ≡ child_part (points_of self.now.order) (rule_of self.now) (point_in self.now.order scale.now)
-            (motion_in self.now.order at.now) number
-            (child_of (points_of self.now.order) (rule_of self.now) kind number)) }
-        ensures holds { IfOk result (λ seen. seen.holds ≡ (sought && holds_point (points_of self.now.order)
-            (outline (points_of self.now.order) (rule_of self.now) seen.part.kind
-            (point_in self.now.order scale.now) (motion_in self.now.order seen.part.motion))
-            (point_in self.now.order point.now))) }
+            ≡ child_part (points_of self.now.order) (rule_of self.now)
+            (point_in self.now.order whole.now.scale.now) (motion_in self.now.order whole.now.at.now) number
+            (child_of (points_of self.now.order) (rule_of self.now) whole.now.kind number)) }
+        ensures holds { IfOk result (λ seen. seen.holds ≡ (sought && do_hold self.now
+            (outline_at self.now seen.part.kind whole.now.scale.now seen.part.motion) point.now)) }
         ensures is_part { IfOk result (λ seen. IsPart self.now seen.part) }
-        ensures none_refused { IfOk result (λ _. find (is_refused self.now.order)
+        ensures visits { Visits self.now.order
             (values_of_child (points_of self.now.order) (rule_of self.now)
-            (point_in self.now.order scale.now) (motion_in self.now.order at.now)
-            (child_of (points_of self.now.order) (rule_of self.now) kind number)) ≡ None) }
-        ensures limit { IfErr result (λ limit. find (is_refused self.now.order)
-            (values_of_child (points_of self.now.order) (rule_of self.now)
-            (point_in self.now.order scale.now) (motion_in self.now.order at.now)
-            (child_of (points_of self.now.order) (rule_of self.now) kind number)) ≡ Some
-            (point_in self.now.order limit.value)) }
-        ensures limit_in_order { IfErr result (λ limit. IsOf self.now.order limit.value) }
+            (point_in self.now.order whole.now.scale.now) (motion_in self.now.order whole.now.at.now)
+            (child_of (points_of self.now.order) (rule_of self.now) whole.now.kind number)) result }
     {
         let checked = self.checked();
         let order = checked.order();
-        let child = checked.child(kind, number);
+        let child = checked.child(whole.kind, number);
         let scaled = Motion {
             turn: child.turn,
-            shift: mul(order, scale, &child.shift),
+            shift: mul(order, whole.scale, &child.shift),
         };
-        let motion = compose(order, at, &scaled);
+        let motion = compose(order, whole.at, &scaled);
         if refused(&motion.shift) {
             return Err(CoordLimit {
                 value: motion.shift,
             });
         }
-        let holds = self.holds_where(sought, child.kind, scale, &motion, point)?;
+        let tile = InflatedTile {
+            kind: child.kind,
+            scale: whole.scale,
+            at: &motion,
+        };
+        let holds = self.holds_where(&tile, point, sought)?;
         Ok(Seen {
             part: Part {
                 child: number,
@@ -90,34 +83,25 @@ impl Machine {
     /// first value that is refused.
     pub(crate) fn holder(
         &self,
-        kind: u8,
-        scale: &Point,
-        at: &Motion,
+        whole: &InflatedTile<'_>,
         point: &Point,
     ) -> Result<Option<Part>, CoordLimit>
-        requires exists { kind < length (rule_of self.now).kinds }
-        requires scale_within { IsWithin (2 ^ 24) scale.now }
-        requires moves { IsMotionOf self.now.order (2 ^ 24) at.now }
+        requires whole { IsInflatedTile self.now whole.now }
         requires point_within { IsWithin (2 ^ 24) point.now }
         ensures held { IfOk result (λ part. option_map (part_in self.now.order) part
-            ≡ holder (points_of self.now.order) (rule_of self.now) (point_in self.now.order scale.now)
-            (motion_in self.now.order at.now) (point_in self.now.order point.now)
-            0 (children_of (rule_of self.now) kind)) }
+            ≡ holder (points_of self.now.order) (rule_of self.now)
+            (point_in self.now.order whole.now.scale.now) (motion_in self.now.order whole.now.at.now)
+            (point_in self.now.order point.now) 0 (children_of (rule_of self.now) whole.now.kind)) }
         ensures is_part { IfOk result (λ part. IfSome part (IsPart self.now)) }
-        ensures none_refused { IfOk result (λ _. find (is_refused self.now.order)
+        ensures visits { Visits self.now.order
             (values_of_children (points_of self.now.order) (rule_of self.now)
-            (point_in self.now.order scale.now) (motion_in self.now.order at.now)
-            (children_of (rule_of self.now) kind)) ≡ None) }
-        ensures limit { IfErr result (λ limit. find (is_refused self.now.order)
-            (values_of_children (points_of self.now.order) (rule_of self.now)
-            (point_in self.now.order scale.now) (motion_in self.now.order at.now)
-            (children_of (rule_of self.now) kind)) ≡ Some (point_in self.now.order limit.value)) }
-        ensures limit_in_order { IfErr result (λ limit. IsOf self.now.order limit.value) }
+            (point_in self.now.order whole.now.scale.now) (motion_in self.now.order whole.now.at.now)
+            (children_of (rule_of self.now) whole.now.kind)) result }
     {
-        let count = self.checked().rule().child_count(usize::from(kind));
+        let count = self.checked().rule().child_count(usize::from(whole.kind));
         let mut held = None;
         for number in 0..count {
-            let seen = self.look(kind, number as u8, scale, at, point, held.is_none())?;
+            let seen = self.look(whole, number as u8, point, held.is_none())?;
             held = first_held(held, seen);
         }
         Ok(held)

@@ -1,16 +1,18 @@
 //! Where a tile lies in its supertile, by Horner's scheme on the digits of its address.
 ghost use Rattle.std.specs.Prelude.{◌≡◌, ◌<◌, ◌+◌, ◌%◌, ◌^◌, ℕ, length, map, None, Some, IfOk, IfErr};
 ghost use Rattle.theory_addresses.specs.Address.{Climbs, Fits};
-ghost use Rattle.theory_substitution.specs.Rule.{children_of};
 ghost use Rattle.theory_substitution.specs.Motion.{still};
-ghost use Rattle.theory_substitution.specs.Placement.{finer, placement};
+ghost use Rattle.theory_substitution.specs.Placement.{finer, horner_values, placement};
 ghost use Rattle.cyclo_points.specs.Order.{points_of};
 ghost use Rattle.cyclo_points.specs.Point.{point_in, IsOf, IsWithin};
 ghost use Rattle.cyclo_points.specs.Motion.{motion_in};
 ghost use Rattle.rule_model.specs.Tiling.{tiling_of, children, its_child, IsPlaced};
 ghost use Rattle.rule_model.specs.Usable.{IsSmall};
 ghost use Rattle.tile_shape.specs.Views.{address_of, step_of};
+ghost use Rattle.tile_place.specs.Motions.{IsMotionOf};
 ghost use Rattle.tile_place.specs.Placing.{first_refused};
+ghost use Rattle.tile_place.specs.Refused.{Visits};
+ghost use Rattle.tile_place.specs.Steps.{HasStep};
 
 use crate::coord_limit::CoordLimit;
 use cyclo_points::arithmetic::{add, refused};
@@ -81,13 +83,10 @@ fn horner<P: Placing>(rule: &P, order: Order, digits: &[Step]) -> Result<Motion,
     requires climbs { (kind : ℕ) × Climbs (children (P.tiling rule.now)) kind (map step_of digits.now) }
     ensures placed { IfOk result (λ motion. motion_in (P.tiling rule.now).order motion
         ≡ placement (points_of (P.tiling rule.now).order) (P.tiling rule.now).rule (map step_of digits.now)) }
-    ensures within { IfOk result (λ _. first_refused (P.tiling rule.now) (map step_of digits.now) ≡ None) }
-    ensures turn_below { IfOk result (λ motion. motion.turn < (points_of (P.tiling rule.now).order).order) }
-    ensures shift_within { IfOk result (λ motion. IsWithin (2 ^ 24) motion.shift) }
-    ensures in_order { IfOk result (λ motion. IsOf (P.tiling rule.now).order motion.shift) }
-    ensures limit { IfErr result (λ limit. first_refused (P.tiling rule.now) (map step_of digits.now)
-        ≡ Some (point_in (P.tiling rule.now).order limit.value)) }
-    ensures limit_in_order { IfErr result (λ limit. IsOf (P.tiling rule.now).order limit.value) }
+    ensures moves { IfOk result (IsMotionOf (P.tiling rule.now).order (2 ^ 24)) }
+    ensures visits { Visits (P.tiling rule.now).order
+        (horner_values (points_of (P.tiling rule.now).order) (P.tiling rule.now).rule
+        (map step_of digits.now)) result }
 {
     let mut level = digits.len();
     if level == 0 {
@@ -113,15 +112,12 @@ fn horner<P: Placing>(rule: &P, order: Order, digits: &[Step]) -> Result<Motion,
 #[inline(always)]
 fn coarsest<P: Placing>(rule: &P, order: Order, step: Step) -> Motion
     requires order { order ≡ (P.tiling rule.now).order }
-    requires parent { step.parent < length (P.tiling rule.now).rule.kinds }
-    requires child { step.child < length (children_of (P.tiling rule.now).rule step.parent) }
+    requires step { HasStep (P.tiling rule.now) step }
     ensures moved { motion_in (P.tiling rule.now).order result
         ≡ finer (points_of (P.tiling rule.now).order) (P.tiling rule.now).rule
         (still (points_of (P.tiling rule.now).order))
         (its_child (P.tiling rule.now) step.parent step.child).motion }
-    ensures turn_below { result.turn < (points_of (P.tiling rule.now).order).order }
-    ensures within { IsWithin (2 ^ 24) result.shift }
-    ensures in_order { IsOf (P.tiling rule.now).order result.shift }
+    ensures moves { IsMotionOf (P.tiling rule.now).order (2 ^ 24) result }
 {
     points_law(order);
     let child = rule.child(step.parent, step.child);
@@ -135,12 +131,10 @@ fn coarsest<P: Placing>(rule: &P, order: Order, step: Step) -> Motion
 #[inline(always)]
 fn finer<P: Placing>(rule: &P, order: Order, factor: &Point, motion: &Motion, step: Step) -> Motion
     requires order { order ≡ (P.tiling rule.now).order }
+    requires step { HasStep (P.tiling rule.now) step }
     requires factor { point_in (P.tiling rule.now).order factor.now ≡ (P.tiling rule.now).rule.factor }
     requires small_factor { IsSmall (P.tiling rule.now).order factor.now }
-    requires parent { step.parent < length (P.tiling rule.now).rule.kinds }
-    requires child { step.child < length (children_of (P.tiling rule.now).rule step.parent) }
-    requires turn_below { motion.now.turn < (points_of (P.tiling rule.now).order).order }
-    requires within { IsWithin (2 ^ 24) motion.now.shift }
+    requires moves { IsMotionOf (P.tiling rule.now).order (2 ^ 24) motion.now }
     ensures moved { motion_in (P.tiling rule.now).order result
         ≡ finer (points_of (P.tiling rule.now).order) (P.tiling rule.now).rule
         (motion_in (P.tiling rule.now).order motion.now)

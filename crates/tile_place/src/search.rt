@@ -1,20 +1,15 @@
 //! The search from a supertile down to the tile that holds a point.
-ghost use Rattle.std.specs.Prelude.{◌≡◌, ◌+◌, ◌<◌, ◌≤◌, ◌^◌, All, length, map, find, None, Some, IfOk, IfErr};
-ghost use Rattle.theory_frames.specs.Descent.{tile_below, tile_holding};
-ghost use Rattle.theory_frames.specs.Looked.{powers_from, values_below, values_looked_at};
-ghost use Rattle.cyclo_points.specs.Order.{points_of, is_refused};
-ghost use Rattle.cyclo_points.specs.Point.{point_in, IsOf, IsWithin};
-ghost use Rattle.cyclo_points.specs.Motion.{motion_in};
-ghost use Rattle.rule_model.specs.Views.{rule_of};
+ghost use Rattle.std.specs.Prelude.{◌^◌, IfOk, IfErr};
+ghost use Rattle.cyclo_points.specs.Point.{IsWithin};
 ghost use Rattle.tile_place.specs.FactorPowers.{ArePowers};
-ghost use Rattle.tile_place.specs.Motions.{IsMotionOf};
-ghost use Rattle.tile_place.specs.Searched.{placed_in, IsSearchFault};
+ghost use Rattle.tile_place.specs.Searched.{IsMovedSupertile, IsFoundTile, IsSearchFault, values_of_search, holder_of_search, values_under, holder_under};
 
+use crate::inflated_tile::InflatedTile;
 use crate::locate_fault::LocateFault;
 use crate::machine::Machine;
+use crate::moved_supertile::MovedSupertile;
 use crate::placed_tile::PlacedTile;
 use arrayvec::ArrayVec;
-use cyclo_points::motion::Motion;
 use cyclo_points::point::Point;
 use plane_geom::polygons::member;
 use tile_shape::address::Address;
@@ -25,81 +20,58 @@ impl Machine {
     /// the first value on the way that is refused, or is `NotInside`.
     pub(crate) fn search(
         &self,
-        kind: u8,
-        depth: u8,
-        at: &Motion,
+        whole: &MovedSupertile<'_>,
         point: &Point,
     ) -> Result<PlacedTile, LocateFault>
-        requires exists { kind < length (rule_of self.now).kinds }
-        requires at_most_64 { depth ≤ 64 }
-        requires moves { IsMotionOf self.now.order (2 ^ 24) at.now }
+        requires whole { IsMovedSupertile self.now whole.now }
         requires point_within { IsWithin (2 ^ 24) point.now }
-        ensures holder { IfOk result (λ tile. tile_holding (points_of self.now.order) (rule_of self.now)
-            kind depth
-            (motion_in self.now.order at.now) (point_in self.now.order point.now) ≡ Some
-            (placed_in self.now.order tile)) }
-        ensures its_kind { IfOk result (λ tile. tile.kind ≡ tile.addr.kind) }
-        ensures moves { IfOk result (λ tile. IsMotionOf self.now.order (2 ^ 24) tile.motion) }
-        ensures none_refused { IfOk result (λ _. find (is_refused self.now.order)
-            (values_looked_at (points_of self.now.order) (rule_of self.now) kind depth
-            (motion_in self.now.order at.now) (point_in self.now.order point.now)) ≡ None) }
-        ensures fault { IfErr result (λ fault. IsSearchFault self.now.order
-            (values_looked_at (points_of self.now.order) (rule_of self.now) kind depth
-            (motion_in self.now.order at.now) (point_in self.now.order point.now))
-            (tile_holding (points_of self.now.order) (rule_of self.now) kind depth
-            (motion_in self.now.order at.now) (point_in self.now.order point.now)) fault) }
+        ensures found { IfOk result (IsFoundTile self.now.order
+            (values_of_search self.now whole.now point.now) (holder_of_search self.now whole.now point.now)) }
+        ensures fault { IfErr result (IsSearchFault self.now.order
+            (values_of_search self.now whole.now point.now) (holder_of_search self.now whole.now point.now)) }
     {
         let order = self.checked().order();
-        let powers = match self.powers(depth) {
+        let powers = match self.powers(whole.depth) {
             Ok(powers) => powers,
             Err(limit) => return Err(LocateFault::CoordLimit { value: limit.value }),
         };
-        let corners = match self.outline(kind, &powers[depth as usize], at) {
+        let corners = match self.outline(whole.kind, &powers[whole.depth as usize], whole.at) {
             Ok(corners) => corners,
             Err(limit) => return Err(LocateFault::CoordLimit { value: limit.value }),
         };
         if !member(order, corners.as_slice(), point) {
             return Err(LocateFault::NotInside);
         }
-        self.descend(kind, depth, at, point, powers.as_slice())
+        self.descend(whole, point, powers.as_slice())
     }
 
     /// Goes down from a supertile that holds a point to the tile that holds it.
     fn descend(
         &self,
-        kind: u8,
-        depth: u8,
-        at: &Motion,
+        whole: &MovedSupertile<'_>,
         point: &Point,
         powers: &[Point],
     ) -> Result<PlacedTile, LocateFault>
-        requires exists { kind < length (rule_of self.now).kinds }
-        requires at_most_64 { depth ≤ 64 }
-        requires moves { IsMotionOf self.now.order (2 ^ 24) at.now }
+        requires whole { IsMovedSupertile self.now whole.now }
         requires point_within { IsWithin (2 ^ 24) point.now }
-        requires powers { ArePowers self.now depth powers.now }
-        ensures holder { IfOk result (λ tile. tile_below (points_of self.now.order) (rule_of self.now) kind
-            depth
-            (motion_in self.now.order at.now) (point_in self.now.order point.now) ≡ Some
-            (placed_in self.now.order tile)) }
-        ensures its_kind { IfOk result (λ tile. tile.kind ≡ tile.addr.kind) }
-        ensures moves { IfOk result (λ tile. IsMotionOf self.now.order (2 ^ 24) tile.motion) }
-        ensures none_refused { IfOk result (λ _. find (is_refused self.now.order)
-            (values_below (points_of self.now.order) (rule_of self.now) kind depth
-            (motion_in self.now.order at.now) (point_in self.now.order point.now)) ≡ None) }
-        ensures fault { IfErr result (λ fault. IsSearchFault self.now.order
-            (values_below (points_of self.now.order) (rule_of self.now) kind depth
-            (motion_in self.now.order at.now) (point_in self.now.order point.now))
-            (tile_below (points_of self.now.order) (rule_of self.now) kind depth
-            (motion_in self.now.order at.now) (point_in self.now.order point.now)) fault) }
+        requires powers { ArePowers self.now whole.now.depth powers.now }
+        ensures found { IfOk result (IsFoundTile self.now.order (values_under self.now whole.now point.now)
+            (holder_under self.now whole.now point.now)) }
+        ensures fault { IfErr result (IsSearchFault self.now.order
+            (values_under self.now whole.now point.now) (holder_under self.now whole.now point.now)) }
     {
-        let mut top = kind;
-        let mut motion = *at;
-        let mut level = depth;
+        let mut top = whole.kind;
+        let mut motion = *whole.at;
+        let mut level = whole.depth;
         let mut digits = ArrayVec::new();
         while level > 0 {
             level -= 1;
-            match self.holder(top, &powers[level as usize], &motion, point) {
+            let tile = InflatedTile {
+                kind: top,
+                scale: &powers[level as usize],
+                at: &motion,
+            };
+            match self.holder(&tile, point) {
                 Ok(Some(part)) => {
                     digits.insert(
                         0,

@@ -7,7 +7,7 @@ ghost use Rattle.cyclo_points.specs.Point.{point_in, IsOf, IsWithin};
 ghost use Rattle.rule_model.specs.Tiling.{tiling_of};
 ghost use Rattle.rule_model.specs.Usable.{origin, IsSmall};
 ghost use Rattle.rule_model.specs.Views.{rule_of};
-ghost use Rattle.tile_place.specs.TurnedVertices.{turned_by, widened, place_of, AreTurned};
+ghost use Rattle.tile_place.specs.TurnedVertices.{turned_by, turned_table, widened, place_of, AreTurned};
 
 use crate::small_point::SmallPoint;
 use cyclo_points::order::Order;
@@ -49,7 +49,7 @@ impl TurnedVertices {
         let turns = order.n();
         let rows = usize::from(checked.uses().kinds()) * usize::from(turns);
         let mut points = Vec::with_capacity(alloc, rows * usize::from(sides))?;
-        push_by_order(checked, order, sides, rows, &mut points)?;
+        push_by_order(checked, order, sides, &mut points)?;
         Ok(TurnedVertices {
             sides,
             turns,
@@ -80,22 +80,18 @@ fn push_by_order(
     checked: &Checked,
     order: Order,
     sides: u8,
-    rows: usize,
     points: &mut Vec<SmallPoint>,
 ) -> Result<(), NoMemory>
     requires order { order ≡ checked.now.order }
     requires empty { points.old.items ≡ [] }
-    requires few { length (rule_of checked.now).kinds ≤ 255 }
-    requires rows { rows ≡ length (rule_of checked.now).kinds * (points_of order).order }
     requires hold { (k : ℕ) → edge_count (rule_of checked.now) k ≤ sides }
-    ensures { OnOk result (AreTurned (tiling_of checked.now)
-        (record { sides = sides; turns = (points_of order).order; points = map widened points.new.items })) }
+    ensures { OnOk result (AreTurned (tiling_of checked.now) (turned_table order sides points.new.items)) }
 {
     match order {
-        Order::Four => push_rows(checked, Order::Four, sides, rows, points),
-        Order::Six => push_rows(checked, Order::Six, sides, rows, points),
-        Order::Eight => push_rows(checked, Order::Eight, sides, rows, points),
-        Order::Ten => push_rows(checked, Order::Ten, sides, rows, points),
+        Order::Four => push_rows(checked, Order::Four, sides, points),
+        Order::Six => push_rows(checked, Order::Six, sides, points),
+        Order::Eight => push_rows(checked, Order::Eight, sides, points),
+        Order::Ten => push_rows(checked, Order::Ten, sides, points),
     }
 }
 
@@ -105,19 +101,15 @@ fn push_rows(
     checked: &Checked,
     order: Order,
     sides: u8,
-    rows: usize,
     points: &mut Vec<SmallPoint>,
 ) -> Result<(), NoMemory>
     requires order { order ≡ checked.now.order }
     requires empty { points.old.items ≡ [] }
-    requires few { length (rule_of checked.now).kinds ≤ 255 }
-    requires rows { rows ≡ length (rule_of checked.now).kinds * (points_of order).order }
     requires hold { (k : ℕ) → edge_count (rule_of checked.now) k ≤ sides }
-    ensures { OnOk result (AreTurned (tiling_of checked.now)
-        (record { sides = sides; turns = (points_of order).order; points = map widened points.new.items })) }
+    ensures { OnOk result (AreTurned (tiling_of checked.now) (turned_table order sides points.new.items)) }
 {
     let turns = usize::from(order.n());
-    for row in 0..rows {
+    for row in 0..usize::from(checked.uses().kinds()) * turns {
         let vertices = checked.vertices((row / turns) as u8);
         let steps = (row % turns) as u8;
         for number in 0..usize::from(sides) {

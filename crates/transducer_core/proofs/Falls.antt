@@ -1,15 +1,13 @@
 -- One level down by the words of a flat table.
-use Rattle.std.proofs.Common.{◌≡◌, ℕ, ◌+◌, ◌*◌, ◌-◌, ◌<◌, ◌/◌, ◌%◌, ◌^◌, List, length, map, drop, get_or, set, Some, IsSome, refl, sym, ap, ◌∙◌, arith, subst}
+use Rattle.std.proofs.Common.{◌≡◌, ℕ, ◌+◌, ◌*◌, ◌-◌, ◌<◌, ◌/◌, ◌%◌, ◌^◌, List, length, drop, get_or, set, Some, IsSome, sym, ap, ◌∙◌, arith, subst}
 use Rattle.std.specs.List.{slice_get}
-use Rattle.std.proofs.lemmas.Option.{slice_get_within}
-use Rattle.std.proofs.lemmas.List.{length-map, map-set}
 use Rattle.tile_shape.specs.declared.step.Step as program
 use Rattle.tile_shape.specs.Views.{step_of}
 use Rattle.theory_addresses.specs.Address.{Address, Step, Fits}
 use Rattle.theory_addresses.specs.Coherent.{IsCoherent}
 use Rattle.theory_addresses.specs.Tables.{Tables, child_kinds, child_kind_of, part_count, type_of}
 use Rattle.theory_addresses.specs.Touch.{Touches}
-use Rattle.theory_addresses.proofs.Chains.{IsChain, IsChain-at, chain_of, fits_of}
+use Rattle.theory_addresses.proofs.Chains.{IsChain, chain_of, fits_of}
 use Rattle.theory_addresses.proofs.TableBounds.{child_bounds}
 use Rattle.theory_addresses.proofs.Touching.{Touches-of}
 use Rattle.transducer_core.specs.declared.climb.Meeting.{Meeting}
@@ -19,7 +17,8 @@ use Rattle.transducer_core.specs.FlatTables.{part_rows, kind_rows}
 use Rattle.transducer_core.specs.Merged.{AllBegin, AreSpread, HasEntry}
 use Rattle.transducer_core.proofs.FlatLooks
 use Rattle.transducer_core.proofs.Halfway
-use Rattle.transducer_core.proofs.Rising.{MetAt, met_of, digit_read}
+use Rattle.transducer_core.proofs.Onward
+use Rattle.transducer_core.proofs.Rising.{MetAt, met_of}
 
 abbrev at_address : ℕ → List Step → Address
 at_address k xs = record { kind = k; digits = xs }
@@ -29,7 +28,7 @@ met_at : (t : Tables) (k : ℕ) (xs : List Step) (e : ℕ) (m : Meeting) (parts 
     → MetAt t xs e m.level (m.word % 256) (m.word / 256 % 256) parts
 met_at t k xs e m parts s = met_of (at_address k xs) s.meets
 
-chain_at : (t : Tables) (k : ℕ) (xs : List Step) (e : ℕ) (m : Meeting) (parts : List ℕ)
+pub chain_at : (t : Tables) (k : ℕ) (xs : List Step) (e : ℕ) (m : Meeting) (parts : List ℕ)
     → StartsDown t (record { kind = k; digits = xs }) e m parts → IsChain t k xs
 chain_at t k xs e m parts s = chain_of t (at_address k xs) s.fits
 
@@ -72,9 +71,9 @@ module _ (t : Tables) (xs : List Step) (m : Meeting) (parts starts words kinds :
   -- ---- one level
   onward : (k e i n : ℕ) (ys : List Step) (side : Side) → i < m.level → n ≡ i + 1
       → StartsDown t (record { kind = k; digits = xs }) e m parts → Down t xs m parts n ys side
-      → Halfway.Onward t k xs e parts i ys (side.row / 256) side.edge
+      → Onward.Onward t k xs e parts i ys (side.row / 256) side.edge
   onward k e i n ys side below more starts d =
-      Halfway.onward t k xs e m.level (m.word % 256) (m.word / 256 % 256) parts i n ys (side.row / 256)
+      Onward.onward t k xs e m.level (m.word % 256) (m.word / 256 % 256) parts i n ys (side.row / 256)
       side.edge coherent (chain_at t k xs e m parts starts) (met_at t k xs e m parts starts) below more
       (d.halfway k e starts)
 
@@ -138,75 +137,11 @@ module _ (t : Tables) (xs : List Step) (m : Meeting) (parts starts words kinds :
       → Touches t (record { kind = k; digits = xs }) e (record { kind = side.row / 256; digits = ys }) side.edge
   touches i ys side none d k e starts =
       Touches-of (at_address k xs) (at_address (side.row / 256) ys)
-      (Halfway.landed t k xs e parts i ys (side.row / 256) side.edge none (d.halfway k e starts))
+      (Onward.landed t k xs e parts i ys (side.row / 256) side.edge none (d.halfway k e starts))
 
   pub fits : (i : ℕ) (ys : List Step) (side : Side) → i ≡ 0 → Down t xs m parts i ys side
       → Fits (child_kinds t) (record { kind = side.row / 256; digits = ys })
   fits i ys side none d = fits_of t (side.row / 256) ys coherent (rw none at d.chain)
 
   pub edge : (i : ℕ) (ys : List Step) (side : Side) → Down t xs m parts i ys side → IsSome (type_of t (side.row / 256) side.edge)
-  edge i ys side d = Halfway.half_edge t some.0 xs some.1 parts i ys (side.row / 256) side.edge (d.halfway some.0 some.1 some.2)
-
--- ---- over the program's digits
-module _ (t : Tables) (digits : List program.Step) (m : Meeting) (parts starts words kinds : List ℕ)
-    (coherent : IsCoherent t) (begin : AllBegin (part_rows t) starts words)
-    (spread : AreSpread (kind_rows t) kinds)
-    (some : (k : ℕ) × (e : ℕ) × StartsDown t (record { kind = k; digits = map step_of digits }) e m parts) where
-  pub inside : m.level < length digits
-  inside = omega (arith, slice_get_within (map step_of digits) m.level some.2.meets.step some.2.meets.digit, length-map digits step_of)
-
-  abbrev met_digit : program.Step
-  met_digit = get_or digits m.level (record { child = 0; parent = 0 })
-
-  met_digit_is : slice_get (map step_of digits) m.level ≡ Some (step_of met_digit)
-  met_digit_is = digit_read digits digits m.level (record { child = 0; parent = 0 }) refl inside
-
-  -- its parent, by the cell of the meeting
-  pub met_parent : m.at / 256 ≡ met_digit.parent
-  met_parent =
-      let two : Some some.2.meets.step ≡ Some (step_of met_digit) = sym some.2.meets.digit ∙ met_digit_is in
-      let one : some.2.meets.step ≡ step_of met_digit = cc in
-      let child = IsChain-at t some.0 (map step_of digits) m.level some.2.meets.step
-      (chain_at t some.0 (map step_of digits) some.1 m parts some.2) some.2.meets.digit in
-      let b = child_bounds t some.2.meets.step.parent some.2.meets.step.child (rw child.0 refl) in
-      omega (arith, some.2.meets.at_is, ap (λ (s : Step). s.parent) one, b.1, coherent.at_most_16_children some.2.meets.step.parent b.0)
-
-  pub parent_small : m.at / 256 < 256
-  parent_small =
-      let child = IsChain-at t some.0 (map step_of digits) m.level some.2.meets.step
-      (chain_at t some.0 (map step_of digits) some.1 m parts some.2) some.2.meets.digit in
-      let b = child_bounds t some.2.meets.step.parent some.2.meets.step.child (rw child.0 refl) in
-      omega (arith, some.2.meets.at_is, b.0, coherent.at_most_16_kinds, b.1, coherent.at_most_16_children some.2.meets.step.parent b.0)
-
-  pub cell_there : (child cell : ℕ) → child ≡ m.word % 256 → cell ≡ 256 * (m.at / 256) + child → (row : ℕ) × (slice_get kinds cell ≡ Some (row + 255))
-  cell_there child cell is at =
-      let there = first_there t (map step_of digits) m parts starts words kinds coherent begin spread some (step_of met_digit) met_digit_is in
-      let same : cell ≡ 256 * met_digit.parent + m.word % 256 = omega (arith, is, at, met_parent) in
-      (there.0, ap (slice_get kinds) same ∙ there.1)
-
-  pub begun : (child own cell row : ℕ) → child ≡ m.word % 256 → own ≡ m.word / 256 % 256
-      → cell ≡ 256 * (m.at / 256) + child → slice_get kinds cell ≡ Some (row + 255)
-      → Down t (map step_of digits) m parts m.level
-      (map step_of (set digits m.level (record { child = child; parent = m.at / 256 })))
-      (record { row = row; edge = own })
-  begun child own cell row child_is edge_is at row_is =
-      let same : cell ≡ 256 * met_digit.parent + m.word % 256 = omega (arith, child_is, at, met_parent) in
-      let kind : slice_get kinds (256 * met_digit.parent + m.word % 256) ≡ Some (row + 255) = ap (slice_get kinds)
-      (sym same) ∙ row_is in
-      let written : map step_of (set digits m.level (record { child = child; parent = m.at / 256 })) ≡ set
-      (map step_of digits) m.level (record { child = m.word % 256; parent = met_digit.parent }) =
-      map-set step_of digits m.level (record { child = child; parent = m.at / 256 })
-      ∙ (λ j. set (map step_of digits) m.level (record { child = child_is j; parent = met_parent j })) in
-      first t (map step_of digits) m parts starts words kinds coherent begin spread some (step_of met_digit)
-      (map step_of (set digits m.level (record { child = child; parent = m.at / 256 })))
-      (record { row = row; edge = own })
-      met_digit_is kind edge_is written (omega (arith, inside, length-map digits step_of))
-
-  pub written_down : (i n : ℕ) (before : List program.Step) (side : Side) (digit : program.Step)
-      (below : Side) → i < m.level → n ≡ i + 1 → length before ≡ length digits
-      → Down t (map step_of digits) m parts n (map step_of before) side → GoesDown starts words kinds side (get_or parts i 0) digit below
-      → Down t (map step_of digits) m parts i (map step_of (set before i digit)) below
-  written_down i n before side digit below lower more count d g =
-      down t (map step_of digits) m parts starts words kinds coherent begin spread some i n
-      (map step_of before) (map step_of (set before i digit)) side digit below lower more
-      (omega (arith, lower, inside, count, length-map before step_of)) d g (map-set step_of before i digit)
+  edge i ys side d = Onward.half_edge t some.0 xs some.1 parts i ys (side.row / 256) side.edge (d.halfway some.0 some.1 some.2)

@@ -16,7 +16,8 @@ use Rattle.transducer_core.specs.Flat.{Lists, lists_of, mates_in, subs_in, flat_
 use Rattle.transducer_core.specs.FlatTables.{lists_in}
 use Rattle.transducer_core.specs.Merged.{IsMerged}
 use Rattle.transducer_core.specs.Words.{word_of_contact, contact_of_word, word_of_part, part_of_word, contact_words, part_words}
-use Rattle.transducer_core.proofs.FlatLooks.{kind_at, contact_back, part_entry_back}
+use Rattle.transducer_core.proofs.FlatEntries.{kind_at}
+use Rattle.transducer_core.proofs.FlatLooks.{contact_back, part_entry_back}
 use Rattle.transducer_core.specs.Merging.{AreBlocksKept}
 use Rattle.transducer_core.proofs.Joining.{pieces_are, subs_back, types_back, children_back}
 use Rattle.transducer_core.proofs.Standing.{take_at, block_read}

@@ -131,7 +131,7 @@ opened t k xs e parts i own fits in_xs in_parts climbs =
     }
 
 -- the part on the way down exists
-half_part : (t : Tables) (k : ℕ) (xs : List Step) (e : ℕ) (parts : List ℕ) (i n : ℕ) (ys : List Step)
+pub half_part : (t : Tables) (k : ℕ) (xs : List Step) (e : ℕ) (parts : List ℕ) (i n : ℕ) (ys : List Step)
     (kind f : ℕ) → IsCoherent t → IsChain t k xs → i < length xs → i < length parts
     → n ≡ i + 1 → Halfway t k xs e parts n ys kind f → get_or parts i 0 < part_count t kind f
 half_part t k xs e parts i n ys kind f coherent fits in_xs in_parts more h' =
@@ -144,7 +144,7 @@ half_part t k xs e parts i n ys kind f coherent fits in_xs in_parts more h' =
       same_parts t o.step.parent h.own kind f coherent mated,
     )
 
-half_across : (t : Tables) (k : ℕ) (xs : List Step) (e : ℕ) (parts : List ℕ) (i n : ℕ) (ys : List Step)
+pub half_across : (t : Tables) (k : ℕ) (xs : List Step) (e : ℕ) (parts : List ℕ) (i n : ℕ) (ys : List Step)
     (kind f q : ℕ) → IsCoherent t → IsChain t k xs → i < length xs → i < length parts
     → n ≡ i + 1 → Halfway t k xs e parts n ys kind f → q + (get_or parts i 0 + 1) ≡ part_count t kind f
     → (own : ℕ) × AcrossPart t (level_kind k xs i) own kind f q
@@ -157,14 +157,14 @@ half_across t k xs e parts i n ys kind f q coherent fits in_xs in_parts more h' 
           (get_or parts i 0) q coherent mated o.child o.met mirror,
     )
 
-half_child : (t : Tables) (k own kind f q : ℕ) (next : ChildEdge) → AcrossPart t k own kind f q
+pub half_child : (t : Tables) (k own kind f q : ℕ) (next : ChildEdge) → AcrossPart t k own kind f q
     → part_of t kind f q ≡ Some next → IsSome (child_kind_of t kind next.child)
 half_child t k own kind f q next a is =
     let one : a.below ≡ next = let two : Some a.below ≡ Some next = sym a.below_is ∙ is in cc in
     let there : child_kind_of t kind next.child ≡ Some a.kind = rw (← one) a.kind_is in
     rw there refl
 
-half_next : (t : Tables) (k : ℕ) (xs : List Step) (e : ℕ) (parts : List ℕ) (i n : ℕ) (ys : List Step)
+pub half_next : (t : Tables) (k : ℕ) (xs : List Step) (e : ℕ) (parts : List ℕ) (i n : ℕ) (ys : List Step)
     (kind f q : ℕ) (next : ChildEdge) (kind' : ℕ) (zs : List Step) → IsCoherent t → IsChain t k xs
     → i < length xs → i < length parts → n ≡ i + 1 → Halfway t k xs e parts n ys kind f → q + (get_or parts i 0 + 1) ≡ part_count t kind f
     → part_of t kind f q ≡ Some next → child_kind_of t kind next.child ≡ Some kind'
@@ -185,46 +185,4 @@ half_next t k xs e parts i n ys kind f q next kind' zs coherent fits in_xs in_pa
       climbs = o.climbs;
       meets = rw ((at_level xs i o.step o.at).1, below) (as_parts o.met back (mirror ∙ sym size) mirror h.meets);
       mated = rw (← kinds, ← one) a.mated;
-    }
-
--- at the fine end
-pub landed : (t : Tables) (k : ℕ) (xs : List Step) (e : ℕ) (parts : List ℕ) (i : ℕ) (ys : List Step)
-    (kind f : ℕ) → i ≡ 0 → Halfway t k xs e parts i ys kind f → Meets t xs e ys f
-landed t k xs e parts i ys kind f none h =
-    let h' : Halfway t k xs e parts 0 ys kind f = rw (← none) h in
-    let same = top_is h'.climbs.trace in
-    rw same h'.meets
-  where
-    top_is : {own : ℕ} {cuts : List Cut} → Lies t e [] own cuts → e ≡ own
-    top_is itself = refl
-
-pub half_edge : (t : Tables) (k : ℕ) (xs : List Step) (e : ℕ) (parts : List ℕ) (i : ℕ) (ys : List Step)
-    (kind f : ℕ) → Halfway t k xs e parts i ys kind f → IsSome (type_of t kind f)
-half_edge t k xs e parts i ys kind f h = rw h.mated.other_is refl
-
--- all that one level down needs and gives
-pub record Onward (t : Tables) (k : ℕ) (xs : List Step) (e : ℕ) (parts : List ℕ) (i : ℕ) (ys : List Step) (kind f : ℕ) : Type 0 where
-  pub inside : get_or parts i 0 < part_count t kind f
-  pub part : (q : ℕ) → q + (get_or parts i 0 + 1) ≡ part_count t kind f → IsSome (part_of t kind f q)
-  pub child : (q : ℕ) (next : ChildEdge) → q + (get_or parts i 0 + 1) ≡ part_count t kind f
-      → part_of t kind f q ≡ Some next → IsSome (child_kind_of t kind next.child)
-  pub more : (q : ℕ) (next : ChildEdge) (kind' : ℕ) (zs : List Step)
-      → q + (get_or parts i 0 + 1) ≡ part_count t kind f → part_of t kind f q ≡ Some next
-      → child_kind_of t kind next.child ≡ Some kind'
-      → drop i zs ≡ (record { child = next.child; parent = kind }) ∷ drop (i + 1) ys
-      → Halfway t k xs e parts i zs kind' next.edge
-
-pub onward : (t : Tables) (k : ℕ) (xs : List Step) (e level b g : ℕ) (parts : List ℕ) (i n : ℕ)
-    (ys : List Step) (kind f : ℕ) → IsCoherent t → IsChain t k xs
-    → MetAt t xs e level b g parts → i < level → n ≡ i + 1 → Halfway t k xs e parts n ys kind f → Onward t k xs e parts i ys kind f
-onward t k xs e level b g parts i n ys kind f coherent fits m below more h =
-    let in_xs : i < length xs = omega (arith, below, slice_get_within xs level m.step m.at) in
-    let in_parts : i < length parts = omega (arith, below, m.count) in
-    record {
-      inside = half_part t k xs e parts i n ys kind f coherent fits in_xs in_parts more h;
-      part = λ q mirror. let a = half_across t k xs e parts i n ys kind f q coherent fits in_xs in_parts more h mirror in rw a.1.below_is refl;
-      child = λ q next mirror is. let a = half_across t k xs e parts i n ys kind f q coherent fits in_xs
-          in_parts more h mirror in half_child t (level_kind k xs i) a.0 kind f q next a.1 is;
-      more = λ q next kind' zs mirror is child down. half_next t k xs e parts i n ys kind f q next kind' zs
-          coherent fits in_xs in_parts more h mirror is child down;
     }

@@ -13,7 +13,7 @@ use Rattle.theory_addresses.specs.Tables.{Tables, KindTables, child_kinds}
 use Rattle.theory_addresses.proofs.TableBounds.{child_kind-tables}
 use Rattle.transducer_core.specs.FlatTables.{kind_rows}
 use Rattle.transducer_core.specs.Merged.{AreSpread, AreFilled, last_cell, no_row}
-use Rattle.transducer_core.proofs.FlatLooks.{has_kind}
+use Rattle.transducer_core.proofs.FlatEntries.{has_kind}
 
 -- what stands in a mapped list is the image of what stands in the list
 mapped : {A B : Type 0} (f : A → B) (xs : List A) (i : ℕ) (y : B) → slice_get (map f xs) i ≡ Some y

@@ -62,9 +62,10 @@ fn fall<L: Ledger>(
     }
 }
 
-/// Writes the digits from a meeting down along the mirrored parts, and returns the side at the end.
+/// Writes the digits from a meeting down along the mirrored parts. Returns the kind of the tile across and its
+/// edge.
 #[inline(always)]
-fn write_down<L: Ledger>(
+pub(crate) fn write_down<L: Ledger>(
     tables: &FlatTable,
     digits: &mut [Step],
     meeting: Meeting,
@@ -118,32 +119,4 @@ fn write_down<L: Ledger>(
         level -= 2;
     }
     side
-}
-
-/// Descends from a meeting along the mirrored parts. Replaces the kind and the digits by those of the tile
-/// across, and returns the edge of that tile.
-#[inline(always)]
-pub(crate) fn descend<L: Ledger>(
-    tables: &FlatTable,
-    kind: &mut u8,
-    digits: &mut [Step],
-    meeting: Meeting,
-    parts: &[u8],
-    steps: &mut Steps<L>,
-) -> u8
-    requires coherent { IsCoherent tables.now }
-    requires met { (e : ℕ) × StartsDown tables.now
-        (record { kind = kind.old; digits = map step_of digits.old }) e meeting parts.now }
-    ensures touches { (e : ℕ) → StartsDown tables.now
-        (record { kind = kind.old; digits = map step_of digits.old }) e meeting parts.now
-        → Touches tables.now (record { kind = kind.old; digits = map step_of digits.old }) e
-        (record { kind = kind.new; digits = map step_of digits.new }) result }
-    ensures fits { Fits (child_kinds tables.now)
-        (record { kind = kind.new; digits = map step_of digits.new }) }
-    ensures edge_exists { IsSome (type_of tables.now kind.new result) }
-    ensures a_step_a_level { steps.new ≡ steps.old + meeting.level }
-{
-    let side = write_down(tables, digits, meeting, parts, steps);
-    *kind = (side.row / 256) as u8;
-    side.edge as u8
 }

@@ -8,7 +8,7 @@ ghost use Rattle.transducer_core.specs.Crossed.{IsCrossing, IsCrossingInPlace};
 
 use crate::climb::climb;
 use crate::crossing::{Crossing, put_digits};
-use crate::descent::descend;
+use crate::descent::write_down;
 use crate::flat_table::FlatTable;
 use crate::outside::Outside;
 use edge_tables::steps::Steps;
@@ -137,7 +137,9 @@ impl Transducer {
             }
             Err(meeting) => {
                 let parts = &parts[..meeting.level];
-                Ok(descend(&self.flat, kind, digits, meeting, parts, steps))
+                let side = write_down(&self.flat, digits, meeting, parts, steps);
+                *kind = (side.row / 256) as u8;
+                Ok(side.edge as u8)
             }
         }
     }

@@ -6,7 +6,7 @@ use Rattle.call_words.specs.Request.{asked_behind}
 use Rattle.call_words.specs.Values.{values_given}
 use Rattle.call_words.specs.Words.{texts, is_right}
 use Rattle.call_words.proofs.OneMore.{values-named}
-use Rattle.call_words.proofs.RightWords.{have_forms, name_gives_nothing}
+use Rattle.call_words.proofs.FormedValues.{have_forms, name_gives_nothing}
 use Rattle.call_words.proofs.request.words_read.Goals as goal
 
 -- the command's name gives no value

@@ -1,6 +1,7 @@
 use Rattle.std.proofs.Common.{[], ◌∷◌, sym, ◌∙◌, arith}
 use Rattle.std.proofs.lemmas.Grind.{common_steps}
-use Rattle.call_words.proofs.Commas.{found_none, at_one, at_two, at_three, at_four, at_found}
+use Rattle.call_words.proofs.CommaNumbers.{at_one, at_two, at_three, at_four, at_found}
+use Rattle.call_words.proofs.Commas.{found_none}
 use Rattle.call_words.proofs.window_words.at_in.Goals as goal
 
 pub returns-in_err-first-clause-point : goal.returns-in_err-first-clause-point

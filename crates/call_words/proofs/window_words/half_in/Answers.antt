@@ -1,5 +1,6 @@
 use Rattle.std.proofs.Common.{sym, ◌∙◌}
-use Rattle.call_words.proofs.Commas.{found_none, found_some, half_one, half_two}
+use Rattle.call_words.proofs.CommaNumbers.{half_one, half_two}
+use Rattle.call_words.proofs.Commas.{found_none, found_some}
 use Rattle.call_words.proofs.window_words.half_in.Goals as goal
 
 pub returns-in_err-width-clause-half : goal.returns-in_err-width-clause-half

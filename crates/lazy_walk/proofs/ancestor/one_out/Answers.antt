@@ -16,7 +16,7 @@ turn-turned-requires-clause-p_within c = point_wider (8 * 2 ^ 24 * 64) (2 ^ 40) 
     (c.mul-scaled.ensures.bounded (2 ^ 24) 64 c.requires.power_within c.child-child.ensures.small.within)
 
 pub sub-requires-clause-p_within : goal.sub-requires-clause-p_within
-sub-requires-clause-p_within c = point_wider (2 ^ 24) (2 ^ 40) _ (lit≤ tt) c.requires.within
+sub-requires-clause-p_within c = point_wider (2 ^ 24) (2 ^ 40) _ (lit≤ tt) c.requires.moves.within
 
 pub sub-requires-clause-q_within : goal.sub-requires-clause-q_within
 sub-requires-clause-q_within c =
@@ -35,4 +35,5 @@ pub returns-clause-in_order : goal.returns-clause-in_order
 returns-clause-in_order c =
     let same : c.order-order.result ≡ c.args.machine.now.order = c.order-order.ensures.order
     ∙ ap (λ (r : Rule). r.order) c.checked-checked.ensures.rule in
-    c.sub.ensures.in_order c.args.machine.now.order c.requires.in_order (subst (λ o. IsOf o c.turn-turned.result) same c.turn-turned.ensures.in_order)
+    c.sub.ensures.in_order c.args.machine.now.order c.requires.moves.in_order
+    (subst (λ o. IsOf o c.turn-turned.result) same c.turn-turned.ensures.in_order)

@@ -2,7 +2,7 @@ use Rattle.std.proofs.Common.{◌≡◌, ◌∙◌, Some, eq-eqb, sym, ap, map}
 use Rattle.std.proofs.lemmas.Bool.{eqb-true}
 use Rattle.tile_shape.specs.Views.{address_of, step_of}
 use Rattle.theory_addresses.specs.Address.{top_kind, kind_at}
-use Rattle.pair_machine.proofs.Levels.{top_read}
+use Rattle.pair_machine.proofs.OneLevel.{top_read}
 use Rattle.pair_machine.proofs.compare.have_common.Goals as goal
 
 pub returns-then-depth : goal.returns-then-depth

@@ -5,7 +5,8 @@ use Rattle.theory_addresses.specs.Search.{IsAmong}
 use Rattle.pair_machine.specs.Nodes.{IsNode}
 use Rattle.pair_machine.specs.Views.{as_node}
 use Rattle.pair_machine.proofs.Places.{read-among}
-use Rattle.pair_machine.proofs.Finding.{covers_nodes, covers_length, rows_more, all_found, first-node, row-node}
+use Rattle.pair_machine.proofs.AllFound.{covers_nodes, covers_length, rows_more, all_found}
+use Rattle.pair_machine.proofs.Finding.{first-node, row-node}
 use Rattle.pair_machine.proofs.Marks.{kept_in}
 use Rattle.pair_machine.proofs.nodes.nodes_of.Goals as goal
 

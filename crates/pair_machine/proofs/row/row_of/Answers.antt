@@ -5,7 +5,8 @@ use Rattle.theory_addresses.specs.Tables.{part_of, part_count}
 use Rattle.theory_addresses.proofs.TableBounds.{part_there}
 use Rattle.theory_addresses.proofs.Mated.{same_parts}
 use Rattle.pair_machine.specs.Views.{as_node, as_row_pair}
-use Rattle.pair_machine.proofs.Finding.{row_upto, row_upto-none, row_upto-more, row_upto-all, node_mated}
+use Rattle.pair_machine.proofs.AllFound.{row_upto, row_upto-none, row_upto-more, row_upto-all}
+use Rattle.pair_machine.proofs.Finding.{node_mated}
 use Rattle.pair_machine.proofs.row.row_of.Goals as goal
 
 pub parts-count-requires : goal.parts-count-requires

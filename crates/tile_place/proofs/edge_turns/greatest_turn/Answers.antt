@@ -11,12 +11,12 @@ use Rattle.tile_place.proofs.edge_turns.greatest_turn.Goals.{then-is_above, else
 pub loop-steps-init : goal.loop-steps-init
 loop-steps-init c =
     let m = c.args.checked.now in
-    first-turn m.order (edge_vector (points_of m.order) (rule_of m) c.args.kind c.args.edge)
+    first-turn m.order (edge_vector (points_of m.order) (rule_of m) c.args.edge.kind c.args.edge.start)
 
 pub loop-steps-preserved : goal.loop-steps-preserved
 loop-steps-preserved c =
     let m = c.args.checked.now in
-    let v = edge_vector (points_of m.order) (rule_of m) c.args.kind c.args.edge in
+    let v = edge_vector (points_of m.order) (rule_of m) c.args.edge.kind c.args.edge.start in
     let s = c.loop-steps.steps in
     let best = c.loop-steps.best in
     let turns = c.n-steps-end.ensures ∙ ap (λ o. (points_of o).order) c.order.ensures.order in

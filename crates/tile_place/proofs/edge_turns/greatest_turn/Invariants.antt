@@ -5,4 +5,5 @@ use Rattle.tile_place.proofs.GreatestTurns.{IsGreatestBelow}
 use Rattle.tile_place.proofs.edge_turns.greatest_turn.Given as goal
 
 abbrev pub invariant-loop-steps : goal.invariant-loop-steps
-invariant-loop-steps l = IsGreatestBelow l.checked.order (edge_vector (points_of l.checked.order) (rule_of l.checked) l.kind l.edge) l.steps l.best
+invariant-loop-steps l =
+    IsGreatestBelow l.checked.order (edge_vector (points_of l.checked.order) (rule_of l.checked) l.edge.kind l.edge.start) l.steps l.best

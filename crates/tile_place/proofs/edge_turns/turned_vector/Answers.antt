@@ -13,39 +13,40 @@ use Rattle.tile_place.proofs.edge_turns.turned_vector.Goals.{After-at-from}
 pub at-to-requires : goal.at-to-requires
 at-to-requires c =
     let m = c.args.checked.now in
-    let k = c.args.kind in
-    let below = subst (λ e. e < edge_count (rule_of m) k) (sym c.requires.end)
-    (end-below (edge_count (rule_of m) k) c.args.edge c.requires.edge_exists) in
+    let k = c.args.edge.kind in
+    let below = subst (λ e. e < edge_count (rule_of m) k) (sym c.requires.edge.ends)
+    (end-below (edge_count (rule_of m) k) c.args.edge.start c.requires.edge.edge_exists) in
     record {
       exists = (vertex-there (tiling_of m) c.args.vertices.now c.requires.vertices k c.args.steps
-          c.args.end c.requires.exists c.requires.turn_below below).0;
+          c.args.edge.end c.requires.edge.kind_exists c.requires.turn_below below).0;
     }
 
 pub at-from-requires : goal.at-from-requires
 at-from-requires c =
     record {
       exists = (vertex-there (tiling_of c.args.checked.now) c.args.vertices.now c.requires.vertices
-          c.args.kind c.args.steps c.args.edge c.requires.exists c.requires.turn_below
-          c.requires.edge_exists).0;
+          c.args.edge.kind c.args.steps c.args.edge.start c.requires.edge.kind_exists c.requires.turn_below
+          c.requires.edge.edge_exists).0;
     }
 
-end-turned : (c : After-at-from) → IsTurned (tiling_of c.args.checked.now) c.args.kind c.args.steps
-    (next (rule_of c.args.checked.now) c.args.kind c.args.edge) c.at-to.result
+end-turned : (c : After-at-from) → IsTurned (tiling_of c.args.checked.now) c.args.edge.kind c.args.steps
+    (next (rule_of c.args.checked.now) c.args.edge.kind c.args.edge.start) c.at-to.result
 end-turned c =
     let m = c.args.checked.now in
-    let k = c.args.kind in
-    let below = subst (λ e. e < edge_count (rule_of m) k) (sym c.requires.end)
-    (end-below (edge_count (rule_of m) k) c.args.edge c.requires.edge_exists) in
-    subst (λ e. IsTurned (tiling_of m) k c.args.steps e c.at-to.result) c.requires.end
-    (subst (IsTurned (tiling_of m) k c.args.steps c.args.end) (sym c.at-to.ensures)
-    (vertex-there (tiling_of m) c.args.vertices.now c.requires.vertices k c.args.steps c.args.end c.requires.exists c.requires.turn_below below).1)
+    let k = c.args.edge.kind in
+    let below = subst (λ e. e < edge_count (rule_of m) k) (sym c.requires.edge.ends)
+    (end-below (edge_count (rule_of m) k) c.args.edge.start c.requires.edge.edge_exists) in
+    subst (λ e. IsTurned (tiling_of m) k c.args.steps e c.at-to.result) c.requires.edge.ends
+    (subst (IsTurned (tiling_of m) k c.args.steps c.args.edge.end) (sym c.at-to.ensures)
+    (vertex-there (tiling_of m) c.args.vertices.now c.requires.vertices k c.args.steps c.args.edge.end
+    c.requires.edge.kind_exists c.requires.turn_below below).1)
 
-start-turned : (c : After-at-from) → IsTurned (tiling_of c.args.checked.now) c.args.kind c.args.steps c.args.edge c.at-from.result
+start-turned : (c : After-at-from) → IsTurned (tiling_of c.args.checked.now) c.args.edge.kind c.args.steps c.args.edge.start c.at-from.result
 start-turned c =
     let m = c.args.checked.now in
-    subst (IsTurned (tiling_of m) c.args.kind c.args.steps c.args.edge) (sym c.at-from.ensures)
-    (vertex-there (tiling_of m) c.args.vertices.now c.requires.vertices c.args.kind c.args.steps c.args.edge
-    c.requires.exists c.requires.turn_below c.requires.edge_exists).1
+    subst (IsTurned (tiling_of m) c.args.edge.kind c.args.steps c.args.edge.start) (sym c.at-from.ensures)
+    (vertex-there (tiling_of m) c.args.vertices.now c.requires.vertices c.args.edge.kind c.args.steps c.args.edge.start
+    c.requires.edge.kind_exists c.requires.turn_below c.requires.edge.edge_exists).1
 
 pub sub-requires-clause-p_within : goal.sub-requires-clause-p_within
 sub-requires-clause-p_within c = point_wider (2 ^ 7) (2 ^ 40) _ (lit≤ tt) (end-turned (goal.at.sub-requires-clause-p_within c).After-at-from).within
@@ -63,5 +64,5 @@ returns c =
     let four : length d.c ≡ 4 = omega arith in
     coefficients_of o d four (c.sub.ensures.in_order o end.in_order start.in_order)
     ∙ ap (coefficients o)
-    (vector-turned m (subst PointsLaw c.order.ensures.order c.points_law.ensures) c.args.kind c.args.steps
-    c.args.edge c.at-to.result c.at-from.result d end start (c.sub.ensures.is_difference o))
+    (vector-turned m (subst PointsLaw c.order.ensures.order c.points_law.ensures) c.args.edge.kind c.args.steps
+    c.args.edge.start c.at-to.result c.at-from.result d end start (c.sub.ensures.is_difference o))

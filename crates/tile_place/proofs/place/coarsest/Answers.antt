@@ -16,5 +16,10 @@ returns-clause-moved g c =
     ∙ ap (λ (child : Child (NumberOf t.order)). finer (points_of t.order) t.rule (still (points_of t.order))
     child.motion) c.child-child.ensures.number
 
-pub returns-clause-within : goal.returns-clause-within
-returns-clause-within g c = point_wider 64 (2 ^ 24) _ (lit≤ tt) c.child-child.ensures.small.within
+pub returns-clause-moves : goal.returns-clause-moves
+returns-clause-moves g c =
+    record {
+      turn_below = c.child-child.ensures.turn_below;
+      within = point_wider 64 (2 ^ 24) _ (lit≤ tt) c.child-child.ensures.small.within;
+      in_order = c.child-child.ensures.small.in_order;
+    }

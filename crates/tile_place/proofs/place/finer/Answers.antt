@@ -12,7 +12,7 @@ use Rattle.tile_place.proofs.Finer.{finer_is}
 use Rattle.tile_place.proofs.place.finer.Goals as goal
 
 pub mul-inflated-requires-clause-p_within : goal.mul-inflated-requires-clause-p_within
-mul-inflated-requires-clause-p_within g c = point_wider (2 ^ 24) (2 ^ 32) _ (lit≤ tt) c.requires.within
+mul-inflated-requires-clause-p_within g c = point_wider (2 ^ 24) (2 ^ 32) _ (lit≤ tt) c.requires.moves.within
 
 pub mul-inflated-requires-clause-q_within : goal.mul-inflated-requires-clause-q_within
 mul-inflated-requires-clause-q_within g c = point_wider 64 (2 ^ 16) _ (lit≤ tt) c.requires.small_factor.within
@@ -22,7 +22,7 @@ turn-turned-requires-clause-p_within g c = point_wider 64 (2 ^ 40) _ (lit≤ tt)
 
 pub add-requires-clause-p_within : goal.add-requires-clause-p_within
 add-requires-clause-p_within g c = point_wider (8 * 2 ^ 24 * 64) (2 ^ 40) _ (lit≤ tt)
-    (c.mul-inflated.ensures.bounded (2 ^ 24) 64 c.requires.within c.requires.small_factor.within)
+    (c.mul-inflated.ensures.bounded (2 ^ 24) 64 c.requires.moves.within c.requires.small_factor.within)
 
 pub add-requires-clause-q_within : goal.add-requires-clause-q_within
 add-requires-clause-q_within g c = point_wider (2 * 64) (2 ^ 40) _ (lit≤ tt)

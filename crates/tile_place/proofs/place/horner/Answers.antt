@@ -1,10 +1,12 @@
-use Rattle.std.proofs.Common.{◌≡◌, ◌-◌, ◌∙◌, ◌^◌, drop, length, map, pos, refl, sym, ap, arith}
+use Rattle.std.proofs.Common.{◌≡◌, ◌-◌, ◌∙◌, drop, length, map, pos, refl, sym, ap, arith}
+use Rattle.std.proofs.lemmas.Grind.{common_steps}
 use Rattle.std.proofs.lemmas.List.{length-map}
 use Rattle.theory_substitution.specs.Motion.{still}
 use Rattle.theory_substitution.specs.Placement.{placement}
 use Rattle.cyclo_points.specs.Order.{points_of}
 use Rattle.cyclo_points.specs.Motion.{motion_in}
 use Rattle.tile_shape.specs.Views.{step_of}
+use Rattle.tile_place.specs.Placing.{first_refused}
 use Rattle.tile_place.proofs.Children.{digit-listed}
 use Rattle.tile_place.proofs.Start.{IsOrigin, start-still, near-unrefused}
 use Rattle.tile_place.proofs.Descent.{start, Goes, Goes-finer}
@@ -25,17 +27,21 @@ returns-then-level-eq0-clause-placed g c =
     (start t.order t.rule (map step_of xs) 0 (motion_in t.order m)
     (omega (arith, length-map xs step_of, c.if-level-eq0.true)) (start-still t.order m default.0 origin)).motion
 
-pub coarsest-motion-requires-clause-parent : goal.coarsest-motion-requires-clause-parent
-coarsest-motion-requires-clause-parent g c =
-    let t = g.P.Placing.tiling c.args.rule.now in
-    (digit-listed t.rule c.requires.climbs.0 c.args.digits.now (length c.args.digits.now - 1) _ c.requires.climbs.1
-    (omega (arith, c.if-level-eq0.false))).0
+pub returns-then-level-eq0-clause-moves : goal.returns-then-level-eq0-clause-moves
+returns-then-level-eq0-clause-moves g c = record {
+  turn_below = grind (arith, common_steps);
+  within = grind (arith, common_steps);
+  in_order = grind (arith, common_steps);
+}
 
-pub coarsest-motion-requires-clause-child : goal.coarsest-motion-requires-clause-child
-coarsest-motion-requires-clause-child g c =
+pub returns-then-level-eq0-clause-visits : goal.returns-then-level-eq0-clause-visits
+returns-then-level-eq0-clause-visits g c = record { none_refused = grind (arith, common_steps); limit = tt }
+
+pub coarsest-motion-requires-clause-step : goal.coarsest-motion-requires-clause-step
+coarsest-motion-requires-clause-step g c =
     let t = g.P.Placing.tiling c.args.rule.now in
-    (digit-listed t.rule c.requires.climbs.0 c.args.digits.now (length c.args.digits.now - 1) _ c.requires.climbs.1
-    (omega (arith, c.if-level-eq0.false))).1
+    let listed = digit-listed t.rule c.requires.climbs.0 c.args.digits.now (length c.args.digits.now - 1) _ c.requires.climbs.1
+    (omega (arith, c.if-level-eq0.false)) in record { parent_exists = listed.0; child_exists = listed.1 }
 
 pub loop-level-init : goal.loop-level-init
 loop-level-init g c =
@@ -49,21 +55,15 @@ loop-level-init g c =
     (omega (arith, c.if-level-eq0.false)) (omega arith) begun c.coarsest-motion.ensures.moved in
     record {
       level = omega (arith, c.if-level-eq0.false);
-      descends = goes.on (near-unrefused t.order m.shift c.coarsest-motion.ensures.in_order c.coarsest-motion.ensures.within);
-      turn = c.coarsest-motion.ensures.turn_below;
-      within = c.coarsest-motion.ensures.within;
-      in_order = c.coarsest-motion.ensures.in_order;
+      descends = goes.on (near-unrefused t.order m.shift c.coarsest-motion.ensures.moves.in_order c.coarsest-motion.ensures.moves.within);
+      moves = c.coarsest-motion.ensures.moves;
     }
 
-pub finer-motion-requires-clause-parent : goal.finer-motion-requires-clause-parent
-finer-motion-requires-clause-parent g c =
+pub finer-motion-requires-clause-step : goal.finer-motion-requires-clause-step
+finer-motion-requires-clause-step g c =
     let t = g.P.Placing.tiling c.args.rule.now in
-    (digit-listed t.rule c.requires.climbs.0 c.args.digits.now (c.loop-level.level - 1) _ c.requires.climbs.1 (omega arith)).0
-
-pub finer-motion-requires-clause-child : goal.finer-motion-requires-clause-child
-finer-motion-requires-clause-child g c =
-    let t = g.P.Placing.tiling c.args.rule.now in
-    (digit-listed t.rule c.requires.climbs.0 c.args.digits.now (c.loop-level.level - 1) _ c.requires.climbs.1 (omega arith)).1
+    let listed = digit-listed t.rule c.requires.climbs.0 c.args.digits.now (c.loop-level.level - 1) _ c.requires.climbs.1 (omega arith) in
+    record { parent_exists = listed.0; child_exists = listed.1 }
 
 pub loop-level-preserved : goal.loop-level-preserved
 loop-level-preserved g c =
@@ -75,22 +75,39 @@ loop-level-preserved g c =
     record {
       level = omega arith;
       descends = goes.on (sym (c.refused.ensures.in_order t.order c.finer-motion.ensures.in_order) ∙ c.if-refused.false);
-      turn = c.finer-motion.ensures.turn_below;
-      within = c.refused.ensures.within c.if-refused.false;
-      in_order = c.finer-motion.ensures.in_order;
+      moves = record {
+        turn_below = c.finer-motion.ensures.turn_below;
+        within = c.refused.ensures.within c.if-refused.false;
+        in_order = c.finer-motion.ensures.in_order;
+      };
     }
 
-pub returns-then-refused-clause-limit : goal.returns-then-refused-clause-limit
-returns-then-refused-clause-limit g c =
+pub returns-then-refused-clause-visits : goal.returns-then-refused-clause-visits
+returns-then-refused-clause-visits g c =
     let t = g.P.Placing.tiling c.args.rule.now in
     let goes : Goes t.order t.rule c.args.digits.now (c.loop-level.level - 1) (motion_in t.order c.finer-motion.result) =
     Goes-finer t.order t.rule c.args.digits.now c.loop-level.level (c.loop-level.level - 1) _
     (motion_in t.order c.loop-level.motion) (motion_in t.order c.finer-motion.result)
     (omega arith) c.loop-level.invariant.level c.loop-level.invariant.descends c.finer-motion.ensures.moved in
-    goes.out (sym (c.refused.ensures.in_order t.order c.finer-motion.ensures.in_order) ∙ c.if-refused.true)
+    record {
+      none_refused = tt;
+      limit = record {
+        first = goes.out (sym (c.refused.ensures.in_order t.order c.finer-motion.ensures.in_order) ∙ c.if-refused.true);
+        in_order = c.finer-motion.ensures.in_order;
+      };
+    }
 
 pub returns-clause-placed : goal.returns-clause-placed
 returns-clause-placed g c =
     let t = g.P.Placing.tiling c.args.rule.now in
     let at_the_fine_end : c.loop-level.level ≡ 0 = omega arith in
     c.loop-level.invariant.descends.motion ∙ ap (λ i. placement (points_of t.order) t.rule (drop i (map step_of c.args.digits.now))) at_the_fine_end
+
+pub returns-clause-visits : goal.returns-clause-visits
+returns-clause-visits g c =
+    let t = g.P.Placing.tiling c.args.rule.now in
+    let at_the_fine_end : c.loop-level.level ≡ 0 = omega arith in
+    record {
+      none_refused = sym (ap (λ i. first_refused t (drop i (map step_of c.args.digits.now))) at_the_fine_end) ∙ c.loop-level.invariant.descends.none;
+      limit = tt;
+    }

@@ -1,8 +1,7 @@
-use Rattle.std.proofs.Common.{◌<◌, ◌≤◌, ◌^◌, length, map}
-use Rattle.cyclo_points.specs.Order.{points_of}
-use Rattle.cyclo_points.specs.Point.{IsOf, IsWithin}
+use Rattle.std.proofs.Common.{◌≤◌, ◌^◌, length, map}
 use Rattle.cyclo_points.specs.Motion.{motion_in}
 use Rattle.tile_shape.specs.Views.{step_of}
+use Rattle.tile_place.specs.Motions.{IsMotionOf}
 use Rattle.tile_place.proofs.Descent.{Descends}
 use Rattle.tile_place.proofs.place.horner.Given as goal
 
@@ -11,9 +10,7 @@ abbrev pub invariant-loop-level : goal.invariant-loop-level
 invariant-loop-level g l = let t = g.P.Placing.tiling l.rule in record {
   level : l.level ≤ length l.digits;
   descends : Descends t.order t.rule (map step_of l.digits) l.level (motion_in t.order l.motion);
-  turn : l.motion.turn < (points_of t.order).order;
-  within : IsWithin (2 ^ 24) l.motion.shift;
-  in_order : IsOf t.order l.motion.shift;
+  moves : IsMotionOf t.order (2 ^ 24) l.motion;
 }
 
 abbrev pub decreases-loop-level : goal.decreases-loop-level

@@ -1,4 +1,4 @@
-use Rattle.std.proofs.Common.{◌≡◌, ◌+◌, ◌*◌, ◌<◌, [], ◌∷◌, ◌++◌, map, length, sym, ap, ◌∙◌, subst, arith, length-append}
+use Rattle.std.proofs.Common.{◌≡◌, ◌+◌, ◌*◌, ◌<◌, [], ◌∷◌, ◌++◌, map, length, sym, ap, ap₂, ◌∙◌, subst, arith, length-append}
 use Rattle.std.proofs.Math.ListN.{length-map}
 use Rattle.std.proofs.lemmas.List.{map-append}
 use Rattle.std.proofs.lemmas.Nat.{div_below}
@@ -13,12 +13,9 @@ pub overflow_cast-row : goal.overflow_cast-row
 overflow_cast-row c =
     let o = c.args.order in
     let turns : c.from-turns.result ≡ (points_of o).order = c.from-turns.ensures ∙ c.n.ensures in
-    let kinds = length (tiling_of c.args.checked.now).rule.kinds in
-    let row : c.loop-row.row < kinds * c.from-turns.result = subst (λ n. c.loop-row.row < kinds * n)
-    (sym turns) (omega (arith, c.loop-row-test.true, c.requires.rows)) in
     let some : 0 < c.from-turns.result = subst (λ n. 0 < n) (sym turns) (some_order o) in
-    let below = div_below c.loop-row.row c.from-turns.result kinds some row in
-    omega (arith, below, c.requires.few)
+    let below = div_below c.loop-row.row c.from-turns.result c.from.result some c.loop-row-test.true in
+    omega (arith, below, c.from.ensures)
 
 pub loop-number-preserved : goal.loop-number-preserved
 loop-number-preserved c =
@@ -52,8 +49,10 @@ returns c =
     let sides = c.args.sides in
     let items = c.loop-row.points.items in
     let x : TurnedTable = record { sides = sides; turns = (points_of o).order; points = map widened items } in
-    let total : c.loop-row.row * sides ≡ length t.rule.kinds * (points_of o).order * sides = ap
-    (λ n. n * sides) (omega (arith, c.loop-row-test.false, c.loop-row.auto.row-end, c.requires.rows)) in
+    let kinds : c.from.result ≡ length t.rule.kinds = c.from.ensures ∙ c.kinds.ensures.kinds ∙ ap length c.uses.ensures ∙ length-map t.rule.kinds _ in
+    let all : c.loop-row.row ≡ c.from.result * c.from-turns.result = omega (arith, c.loop-row-test.false, c.loop-row.auto.row-end) in
+    let total : c.loop-row.row * sides ≡ length t.rule.kinds * (points_of o).order * sides = ap (λ n. n * sides)
+    (all ∙ ap₂ (λ a b. a * b) kinds (c.from-turns.ensures ∙ c.n.ensures)) in
     record {
       hold = λ k h. c.requires.hold k;
       turns = ap (λ o. (points_of o).order) c.requires.order;

@@ -17,8 +17,7 @@ rise-requires-clause-exists g c =
     (step_of (get_or c.args.digits.now 0 (record { child = 0; parent = 0 })))
     (Climbs.start c.args.tables.now c.args.kind (map step_of c.args.digits.now)
     c.args.edge c.from-own.result c.args.parts.now c.from-own.ensures c.requires.edge_exists)
-    (Rising.digit_read c.args.digits.now c.args.digits.now 0
-    (record { child = 0; parent = 0 }) refl (omega arith))
+    (Rising.digit_read c.args.digits.now c.args.digits.now 0 (record { child = 0; parent = 0 }) refl (omega arith))
 
 pub returns-in_err-own-clause-ends : goal.returns-in_err-own-clause-ends
 returns-in_err-own-clause-ends g c =
@@ -40,8 +39,7 @@ pub loop-level-init : goal.loop-level-init
 loop-level-init g c = elim c.if-depth-eq1.branch [
   | then-depth-eq1+in_ok-own w ↦
       let first = w.in_ok-own.ensures.outer in
-      rw (w.parts-is, w.steps-is, w.own-is, w.level-is)
-      (record {
+      rw (w.parts-is, w.steps-is, w.own-is, w.level-is) (record {
         even = omega (arith, w.if-depth-eq1.true);
         inside = omega (arith, w.if-depth-eq1.true);
         long = omega (arith, w.rise.array_long);
@@ -54,14 +52,11 @@ loop-level-init g c = elim c.if-depth-eq1.branch [
             (step_of (get_or c.args.digits.now 0 (record { child = 0; parent = 0 })))
             (omega arith) (Climbs.start c.args.tables.now c.args.kind
             (map step_of c.args.digits.now) c.args.edge c.from-own.result c.args.parts.now
-            c.from-own.ensures c.requires.edge_exists)
-            (Rising.digit_read c.args.digits.now c.args.digits.now 0
-            (record { child = 0; parent = 0 }) refl (omega arith)) first.1
-            first.2;
+            c.from-own.ensures c.requires.edge_exists) (Rising.digit_read c.args.digits.now c.args.digits.now 0
+            (record { child = 0; parent = 0 }) refl (omega arith)) first.1 first.2;
       })
   | else-depth-eq1 w ↦
-      rw (w.parts-is, w.steps-is, w.own-is, w.level-is)
-      (record {
+      rw (w.parts-is, w.steps-is, w.own-is, w.level-is) (record {
         even = omega (arith, w.if-depth-eq1.false);
         inside = omega arith;
         long = omega arith;
@@ -80,8 +75,7 @@ rise-requires-in-loop-level-clause-exists g c =
     c.loop-level.level c.loop-level.own (take c.loop-level.level c.loop-level.parts)
     (step_of (get_or c.args.digits.now c.loop-level.level (record { child = 0; parent = 0 })))
     c.loop-level.invariant.rising (Rising.digit_read c.args.digits.now
-    c.args.digits.now c.loop-level.level (record { child = 0; parent = 0 })
-    refl (omega arith))
+    c.args.digits.now c.loop-level.level (record { child = 0; parent = 0 }) refl (omega arith))
 
 pub returns-in_err-own-2-clause-ends : goal.returns-in_err-own-2-clause-ends
 returns-in_err-own-2-clause-ends g c =
@@ -111,14 +105,12 @@ rise-requires-in-loop-level-2-clause-exists g c =
     c.rise-in-loop-level.new.parts (step_of (get_or c.args.digits.now c.loop-level.level
     (record { child = 0; parent = 0 }))) (omega (arith, c.loop-level.invariant.long))
     c.loop-level.invariant.rising (Rising.digit_read c.args.digits.now
-    c.args.digits.now c.loop-level.level (record { child = 0; parent = 0 })
-    refl (omega arith)) first.1 first.2 in
+    c.args.digits.now c.loop-level.level (record { child = 0; parent = 0 }) refl (omega arith)) first.1 first.2 in
     Climbs.there c.args.tables.now c.args.kind (map step_of c.args.digits.now) c.args.edge
     c.contacts-contacts.result.starts.now c.contacts-contacts.result.words.now c.requires.coherent
     c.contacts-contacts.ensures (chain_of c.args.tables.now (record { kind = c.args.kind; digits = map step_of c.args.digits.now }) c.requires.fits)
     (c.loop-level.level + 1) c.in_ok-own-2.own (take (c.loop-level.level + 1) c.rise-in-loop-level.new.parts)
-    (step_of (get_or c.args.digits.now (c.loop-level.level + 1)
-    (record { child = 0; parent = 0 }))) risen
+    (step_of (get_or c.args.digits.now (c.loop-level.level + 1) (record { child = 0; parent = 0 }))) risen
     (Rising.digit_read c.args.digits.now c.args.digits.now (c.loop-level.level + 1)
     (record { child = 0; parent = 0 }) refl (omega arith))
 
@@ -135,8 +127,7 @@ returns-in_err-own-3-clause-ends g c =
     c.rise-in-loop-level.new.parts (step_of (get_or c.args.digits.now c.loop-level.level
     (record { child = 0; parent = 0 }))) (omega (arith, c.loop-level.invariant.long))
     c.loop-level.invariant.rising (Rising.digit_read c.args.digits.now
-    c.args.digits.now c.loop-level.level (record { child = 0; parent = 0 })
-    refl (omega arith)) first.1 first.2 in
+    c.args.digits.now c.loop-level.level (record { child = 0; parent = 0 }) refl (omega arith)) first.1 first.2 in
     let p = err_from_is_err_and c.from_residual-in_err-own-3.result c.from_residual-in_err-own-3.ensures.1 in
     let i = c.in_err-own-3.ensures.inner in
     rw (p.1, p.2, c.in_err-own-3.ensures.unchanged)
@@ -163,8 +154,7 @@ loop-level-preserved g c =
     c.rise-in-loop-level.new.parts (step_of (get_or c.args.digits.now c.loop-level.level
     (record { child = 0; parent = 0 }))) (omega (arith, c.loop-level.invariant.long))
     c.loop-level.invariant.rising (Rising.digit_read c.args.digits.now
-    c.args.digits.now c.loop-level.level (record { child = 0; parent = 0 })
-    refl (omega arith)) first.1 first.2 in
+    c.args.digits.now c.loop-level.level (record { child = 0; parent = 0 }) refl (omega arith)) first.1 first.2 in
     let second = c.in_ok-own-3.ensures.outer in
     let two : c.loop-level.level + 1 + 1 ≡ c.loop-level.level + 2 = omega arith in
     let higher = Climbs.up c.args.tables.now c.args.kind (map step_of c.args.digits.now)

@@ -3,7 +3,8 @@ use Rattle.std.specs.List.{concat, flat_map}
 use Rattle.std.proofs.lemmas.List.{take_all, length-map}
 use Rattle.transducer_core.specs.Merging.{AreShort}
 use Rattle.transducer_core.specs.RowBlocks.{blocks_of}
-use Rattle.transducer_core.proofs.Keeping.{words_grown, ends_length}
+use Rattle.transducer_core.proofs.RowKept.{words_grown}
+use Rattle.transducer_core.proofs.Keeping.{ends_length}
 use Rattle.transducer_core.proofs.Once.{once_none}
 use Rattle.transducer_core.proofs.Standing
 use Rattle.transducer_core.proofs.Strides

@@ -3,7 +3,7 @@ use Rattle.std.proofs.lemmas.List.{take_all, length-take}
 use Rattle.theory_addresses.proofs.Lists.{AllByRecursion-among}
 use Rattle.theory_addresses.proofs.Ranges.{place-among}
 use Rattle.transducer_core.specs.RowBlocks.{blocks_of}
-use Rattle.transducer_core.proofs.Keeping.{placed_none, placed_more, words_short, last_of_row}
+use Rattle.transducer_core.proofs.RowKept.{placed_none, placed_more, words_short, last_of_row}
 use Rattle.transducer_core.proofs.Standing
 use Rattle.transducer_core.proofs.merging.place_row.Goals as goal
 

@@ -3,7 +3,7 @@ use Rattle.std.proofs.lemmas.List.{length-map}
 use Rattle.theory_addresses.proofs.Ranges.{slice_get-image}
 use Rattle.edge_tables.specs.Views.{as_child_edge}
 use Rattle.transducer_core.specs.Words.{word_of_part, part_words}
-use Rattle.transducer_core.proofs.FlatLooks.{reversed}
+use Rattle.transducer_core.proofs.FlatEntries.{reversed}
 use Rattle.transducer_core.proofs.Standing
 use Rattle.transducer_core.proofs.words.write_parts.Goals as goal
 

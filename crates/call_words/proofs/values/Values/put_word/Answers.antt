@@ -2,7 +2,7 @@ use Rattle.std.proofs.Common.{rules, ◌≡◌, true, length, nat_lt, ◌∙◌,
 use Rattle.std.specs.List.{before_first, after_first, position_or_len}
 use Rattle.call_words.specs.Reading.{values_of}
 use Rattle.call_words.specs.Words.{is_equals}
-use Rattle.call_words.proofs.OneMore.{put-right, put-more}
+use Rattle.call_words.proofs.RightOne.{put-right, put-more}
 use Rattle.call_words.proofs.values.Values.put_word.Goals as goal
 
 pub returns-in-Some-key_named-clause-right : goal.returns-in-Some-key_named-clause-right

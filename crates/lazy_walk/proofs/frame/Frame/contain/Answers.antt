@@ -7,14 +7,14 @@ use Rattle.tile_place.proofs.Ahead.{handed_on}
 use Rattle.theory_walks.specs.Ancestors.{full}
 use Rattle.theory_walks.proofs.Walks.{GrowsTo-then}
 use Rattle.lazy_walk.proofs.Aheads.{refused_exactly}
-use Rattle.lazy_walk.proofs.Searching.{ancestors_of, at_start, ancestor-now, few, vertex_is, not_yet, not_next, inside_refused, inside_exactly, next_is, one_out}
+use Rattle.lazy_walk.proofs.Searching.{ancestors_of, at_start, ancestor-now, ancestor-in, few, vertex_is, not_yet, not_next, inside_refused, inside_exactly, next_is, one_out}
 use Rattle.lazy_walk.proofs.frame.Frame.contain.Goals as goal
 
 pub is_inside-requires-clause-ancestor : goal.is_inside-requires-clause-ancestor
-is_inside-requires-clause-ancestor c = ancestor-now c.loop-self.invariant
+is_inside-requires-clause-ancestor c = ancestor-in c.loop-self.invariant
 
 pub tile_in-requires-clause-ancestor : goal.tile_in-requires-clause-ancestor
-tile_in-requires-clause-ancestor c = ancestor-now c.loop-self.invariant
+tile_in-requires-clause-ancestor c = ancestor-in c.loop-self.invariant
 
 pub next_out-requires-clause-ancestor : goal.next_out-requires-clause-ancestor
 next_out-requires-clause-ancestor c = ancestor-now c.loop-self.invariant
@@ -27,14 +27,14 @@ pub returns-in_err-is_inside-clause-limit : goal.returns-in_err-is_inside-clause
 returns-in_err-is_inside-clause-limit c =
     handed_on c.from_residual.result c.in_err-is_inside.field-0.0 _ c.from_residual.ensures.1
     (record {
-      first = vertex_is c.loop-self.invariant _ c.in_err-is_inside.ensures.limit;
-      in_order = c.in_err-is_inside.ensures.limit_in_order;
+      first = vertex_is c.loop-self.invariant _ c.in_err-is_inside.ensures.visits.limit.first;
+      in_order = c.in_err-is_inside.ensures.visits.limit.in_order;
     })
 
 pub returns-in_err-is_inside-clause-found_exactly : goal.returns-in_err-is_inside-clause-found_exactly
 returns-in_err-is_inside-clause-found_exactly c =
     refused_exactly c.from_residual.result _ c.in_err-is_inside.field-0.0 _ c.from_residual.ensures.1
-    (vertex_is c.loop-self.invariant _ c.in_err-is_inside.ensures.limit)
+    (vertex_is c.loop-self.invariant _ c.in_err-is_inside.ensures.visits.limit.first)
 
 pub returns-in_err-is_inside-clause-least : goal.returns-in_err-is_inside-clause-least
 returns-in_err-is_inside-clause-least c =
@@ -49,14 +49,13 @@ returns-then-branch-clause-least c =
 
 pub returns-then-branch-clause-found_exactly : goal.returns-then-branch-clause-found_exactly
 returns-then-branch-clause-found_exactly c =
-    inside_exactly c.loop-self.invariant c.in_ok-is_inside.ensures.none_refused
-    (c.in_ok-is_inside.ensures.holds ∙ c.if-branch.true) c.tile_in.result c.tile_in.ensures.limit c.tile_in.ensures.none_refused
+    inside_exactly c.loop-self.invariant c.in_ok-is_inside.ensures.visits.none_refused
+    (c.in_ok-is_inside.ensures.holds ∙ c.if-branch.true) c.tile_in.result c.tile_in.ensures.visits
 
 pub returns-then-branch-clause-limit : goal.returns-then-branch-clause-limit
 returns-then-branch-clause-limit c =
-    inside_refused c.loop-self.invariant c.in_ok-is_inside.ensures.none_refused
-    (c.in_ok-is_inside.ensures.holds ∙ c.if-branch.true) c.tile_in.result c.tile_in.ensures.limit
-    c.tile_in.ensures.limit_in_order
+    inside_refused c.loop-self.invariant c.in_ok-is_inside.ensures.visits.none_refused
+    (c.in_ok-is_inside.ensures.holds ∙ c.if-branch.true) c.tile_in.result c.tile_in.ensures.visits
 
 pub returns-then-branch-clause-only_tile : goal.returns-then-branch-clause-only_tile
 returns-then-branch-clause-only_tile c = IfOk-weaker c.tile_in.result _ _ (λ tile h. h.only_tile) c.tile_in.ensures.contained
@@ -79,7 +78,7 @@ pub returns-in_err-ancestor-clause-limit : goal.returns-in_err-ancestor-clause-l
 returns-in_err-ancestor-clause-limit c =
     handed_on c.from_residual-in_err-ancestor.result c.in_err-ancestor.field-0.0 _ c.from_residual-in_err-ancestor.ensures.1
     (record {
-      first = next_is c.loop-self.invariant c.in_ok-is_inside.ensures.none_refused
+      first = next_is c.loop-self.invariant c.in_ok-is_inside.ensures.visits.none_refused
           (c.in_ok-is_inside.ensures.holds ∙ c.if-branch.false) c.checked.ensures.accepted _ c.in_err-ancestor.ensures.limit;
       in_order = c.in_err-ancestor.ensures.limit_in_order;
     })
@@ -87,7 +86,7 @@ returns-in_err-ancestor-clause-limit c =
 pub returns-in_err-ancestor-clause-found_exactly : goal.returns-in_err-ancestor-clause-found_exactly
 returns-in_err-ancestor-clause-found_exactly c =
     refused_exactly c.from_residual-in_err-ancestor.result _ c.in_err-ancestor.field-0.0 _ c.from_residual-in_err-ancestor.ensures.1
-    (next_is c.loop-self.invariant c.in_ok-is_inside.ensures.none_refused
+    (next_is c.loop-self.invariant c.in_ok-is_inside.ensures.visits.none_refused
     (c.in_ok-is_inside.ensures.holds ∙ c.if-branch.false) c.checked.ensures.accepted _ c.in_err-ancestor.ensures.limit)
 
 pub returns-in_err-ancestor-clause-least : goal.returns-in_err-ancestor-clause-least
@@ -105,7 +104,7 @@ loop-self-init c =
 
 pub loop-self-preserved : goal.loop-self-preserved
 loop-self-preserved c =
-    one_out c.loop-self.invariant c.in_ok-is_inside.ensures.none_refused
+    one_out c.loop-self.invariant c.in_ok-is_inside.ensures.visits.none_refused
     (c.in_ok-is_inside.ensures.holds ∙ c.if-branch.false) c.checked.ensures.accepted c.next_out.new.self c.in_ok-ancestor.ancestor
     c.next_out.ensures.frame c.in_ok-ancestor.ensures.next
 

@@ -16,24 +16,14 @@ returns-clause-digit c =
     digit-same (tiling_of c.args.machine.now) c.args.self.now c.requires.frame c.deref.result.now c.args.level
     _ (ap (map step_of) c.deref.ensures.0 ∙ c.digits.ensures) c.requires.deep
 
-pub returns-clause-parent : goal.returns-clause-parent
-returns-clause-parent c =
+pub returns-clause-step : goal.returns-clause-step
+returns-clause-step c =
     let m = c.args.machine.now in
     let usable = subst AreUsable (c.uses.ensures ∙ ap (λ (r : Rule). children (tiling_of r)) c.checked.ensures.rule) c.kinds-usable.ensures.limits in
     let read = ap (map step_of) c.deref.ensures.0 ∙ c.digits.ensures in
     let own = whole-fits (tiling_of m) (λ base start n h. c.grown_fits_law.ensures (children (tiling_of m))
     base start n usable h) c.args.self.now c.requires.frame in
-    (digit-listed (rule_of m) c.args.self.now.base.kind c.deref.result.now c.args.level _
+    let listed = digit-listed (rule_of m) c.args.self.now.base.kind c.deref.result.now c.args.level _
     (subst (Climbs (children (tiling_of m)) c.args.self.now.base.kind) (sym read) own.climbs)
-    (omega (arith, c.requires.deep, ap length read, length-map c.deref.result.now step_of))).0
-
-pub returns-clause-child : goal.returns-clause-child
-returns-clause-child c =
-    let m = c.args.machine.now in
-    let usable = subst AreUsable (c.uses.ensures ∙ ap (λ (r : Rule). children (tiling_of r)) c.checked.ensures.rule) c.kinds-usable.ensures.limits in
-    let read = ap (map step_of) c.deref.ensures.0 ∙ c.digits.ensures in
-    let own = whole-fits (tiling_of m) (λ base start n h. c.grown_fits_law.ensures (children (tiling_of m))
-    base start n usable h) c.args.self.now c.requires.frame in
-    (digit-listed (rule_of m) c.args.self.now.base.kind c.deref.result.now c.args.level _
-    (subst (Climbs (children (tiling_of m)) c.args.self.now.base.kind) (sym read) own.climbs)
-    (omega (arith, c.requires.deep, ap length read, length-map c.deref.result.now step_of))).1
+    (omega (arith, c.requires.deep, ap length read, length-map c.deref.result.now step_of)) in
+    record { parent_exists = listed.0; child_exists = listed.1 }

@@ -42,46 +42,56 @@ returns-in-Ok-clause-contained c =
     let tile = placed_in m.order c.in-Ok.tile in
     let motion = motion_in m.order c.in-Ok.tile.motion in
     let fits = c.kind_of-kind.ensures.frame_fits in
-    let found = found_at (tiling_of m) f c.requires.frame level p c.kind_of-kind.result
-    (motion_in m.order c.args.ancestor.now.motion) (Some tile) c.requires.deep c.kind_of-kind.ensures.kind
-    c.requires.ancestor.motion_is c.in-Ok.ensures.by_descent in
+    let found = found_at (tiling_of m) f c.requires.ancestor.frame level p c.kind_of-kind.result
+    (motion_in m.order c.args.ancestor.now.motion) (Some tile) c.requires.ancestor.deep c.kind_of-kind.ensures.kind
+    c.requires.ancestor.is_ancestor.motion_is c.in-Ok.ensures.by_descent in
     let holds = c.in-Ok.ensures.only_tile.here.holds in
-    let own = found-whole m settled points dissected f fits level c.requires.deep p tile found in
+    let own = found-whole m settled points dissected f fits level c.requires.ancestor.deep p tile found in
     let lifted = sym c.raise.ensures in
     record {
       only_tile = subst (λ a. IsOnlyHolder (tiling_of m) f p (record { address = a; motion = motion })) lifted
-          (only_holder m settled points dissected f fits level c.requires.deep p tile found found_tile holds);
+          (only_holder m settled points dissected f fits level c.requires.ancestor.deep p tile found found_tile holds);
       stands = record {
         its_kind = c.in-Ok.ensures.of_supertile.its_kind ∙ sym (ap (λ (a : Address). a.kind) c.raise.ensures);
         of_frame = subst (IsTileOf (children (tiling_of m)) (whole f)) lifted (whole-tile_of (children (tiling_of m)) (whole f) _ own);
         at_depth = ap depth c.raise.ensures ∙ own.same_depth;
         in_frame = subst (λ a. StandsInFrame (points_of m.order) (rule_of m) (whole f) a motion) lifted
-            (found-stands m settled points dissected f fits level c.requires.deep p tile found found_tile);
+            (found-stands m settled points dissected f fits level c.requires.ancestor.deep p tile found found_tile);
         turn_below = c.in-Ok.ensures.of_supertile.moves.turn_below;
         in_order = c.in-Ok.ensures.of_supertile.moves.in_order;
       };
       shift_within = c.in-Ok.ensures.of_supertile.moves.within;
-      held = frame_too m settled points dissected f fits level c.requires.deep p tile found found_tile holds;
+      held = frame_too m settled points dissected f fits level c.requires.ancestor.deep p tile found found_tile holds;
     }
 
-pub returns-in-Ok-clause-none_refused : goal.returns-in-Ok-clause-none_refused
-returns-in-Ok-clause-none_refused c =
+pub returns-in-Ok-clause-visits : goal.returns-in-Ok-clause-visits
+returns-in-Ok-clause-visits c =
     let m = c.args.machine.now in
-    let f = c.args.self.now in
     let level = c.args.ancestor.now.level in
     let p = point_in m.order c.args.point.now in
-    ap₂ (λ k g. find (is_refused m.order) (values_looked_at (points_of m.order) (rule_of m) k level g p))
-    (sym c.kind_of-kind.ensures.kind) (sym c.requires.ancestor.motion_is)
-    ∙ (c.in-Ok.ensures.found_exactly.0 refl).0
+    record {
+      none_refused =
+          ap₂ (λ k g. find (is_refused m.order) (values_looked_at (points_of m.order) (rule_of m) k level g p))
+          (sym c.kind_of-kind.ensures.kind) (sym c.requires.ancestor.is_ancestor.motion_is)
+          ∙ (c.in-Ok.ensures.found_exactly.0 refl).0;
+      limit = tt;
+    }
 
-pub returns-in-Err-CoordLimit-clause-limit : goal.returns-in-Err-CoordLimit-clause-limit
-returns-in-Err-CoordLimit-clause-limit c =
+pub returns-in-Err-CoordLimit-clause-visits : goal.returns-in-Err-CoordLimit-clause-visits
+returns-in-Err-CoordLimit-clause-visits c =
     let m = c.args.machine.now in
-    let f = c.args.self.now in
     let level = c.args.ancestor.now.level in
     let p = point_in m.order c.args.point.now in
-    ap₂ (λ k g. find (is_refused m.order) (values_looked_at (points_of m.order) (rule_of m) k level g p))
-    (sym c.kind_of-kind.ensures.kind) (sym c.requires.ancestor.motion_is)
-    ∙ (subst (IsCauseOf (tiling_of m) c.kind_of-kind.result level
+    let cause = subst (IsCauseOf (tiling_of m) c.kind_of-kind.result level
     (motion_in m.order c.args.ancestor.now.motion) p) c.in-Err-CoordLimit.field-0-is
-    c.in-Err-CoordLimit.ensures.fault).0
+    c.in-Err-CoordLimit.ensures.fault in
+    record {
+      none_refused = tt;
+      limit = record {
+        first =
+            ap₂ (λ k g. find (is_refused m.order) (values_looked_at (points_of m.order) (rule_of m) k level g p))
+            (sym c.kind_of-kind.ensures.kind) (sym c.requires.ancestor.is_ancestor.motion_is)
+            ∙ cause.0;
+        in_order = cause.1;
+      };
+    }

@@ -12,7 +12,7 @@ use Rattle.pair_machine.specs.Views.{as_node, as_row_pair}
 use Rattle.pair_machine.proofs.Places.{read-among}
 use Rattle.pair_machine.proofs.Finding.{node_small}
 use Rattle.pair_machine.proofs.Marks.{number_within}
-use Rattle.pair_machine.proofs.KeptOnce.{Numbered, numbered_more, machine_of}
+use Rattle.pair_machine.proofs.NumberedNodes.{Numbered, numbered_more, machine_of}
 use Rattle.pair_machine.proofs.machine.PairMachine.compile.Goals as goal
 
 abbrev none : program.Node

@@ -5,7 +5,7 @@ use Rattle.theory_addresses.proofs.Chains.{chain_of}
 use Rattle.pair_machine.specs.Kept.{ArePairsKept}
 use Rattle.pair_machine.specs.Reading.{pairs_read}
 use Rattle.pair_machine.proofs.Ending.{nothing_kept, same_read, same_views, ends}
-use Rattle.pair_machine.proofs.Levels.{AtLevel, at_level, kept_below, same_below}
+use Rattle.pair_machine.proofs.OneLevel.{AtLevel, at_level, kept_below, same_below}
 use Rattle.pair_machine.proofs.machine.PairMachine.read.Goals as goal
 
 pub loop-level-init : goal.loop-level-init

@@ -10,7 +10,8 @@ use Rattle.pair_machine.specs.Kept.{ArePairsKept, IsFunctional}
 use Rattle.pair_machine.specs.Nodes.{row_of}
 use Rattle.pair_machine.specs.Reading.{step_pairs, left_of, node_of}
 use Rattle.pair_machine.specs.Views.{as_pair, as_row_pair}
-use Rattle.pair_machine.proofs.Levels.{start_fresh, start_plain, read_more, row_edge_small}
+use Rattle.pair_machine.proofs.OneLevel.{start_fresh, start_plain}
+use Rattle.pair_machine.proofs.Levels.{read_more, row_edge_small}
 use Rattle.pair_machine.proofs.Places.{read-among}
 use Rattle.pair_machine.proofs.machine.PairMachine.read_digits.Goals as goal
 use Rattle.pair_machine.proofs.machine.PairMachine.read_digits.Goals.{then-fresh, else-fresh}

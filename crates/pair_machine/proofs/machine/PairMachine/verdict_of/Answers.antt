@@ -4,7 +4,7 @@ use Rattle.tile_shape.specs.Views.{address_of}
 use Rattle.theory_addresses.specs.Coherent.{IsCoherent}
 use Rattle.pair_machine.specs.Between.{IsBetween, IsInOrder}
 use Rattle.pair_machine.specs.Views.{as_pair}
-use Rattle.pair_machine.proofs.Levels.{between_of}
+use Rattle.pair_machine.proofs.OneLevel.{between_of}
 use Rattle.pair_machine.proofs.machine.PairMachine.verdict_of.Goals as goal
 
 pub returns-then-are_none : goal.returns-then-are_none

@@ -3,7 +3,8 @@ use Rattle.theory_addresses.proofs.Mated.{contact_exists}
 use Rattle.pair_machine.specs.Numbers.{width_of}
 use Rattle.pair_machine.specs.Views.{as_node}
 use Rattle.pair_machine.specs.Searching.{child_nodes}
-use Rattle.pair_machine.proofs.Finding.{child_nodes-none, child_inner, child_outer, other_child, small_first}
+use Rattle.pair_machine.proofs.NodeLoops.{child_nodes-none}
+use Rattle.pair_machine.proofs.Finding.{child_inner, child_outer, other_child, small_first}
 use Rattle.pair_machine.proofs.Marks.{covers_none, covers_more, covers_as}
 use Rattle.pair_machine.proofs.nodes.Found.add_child.Goals as goal
 use Rattle.pair_machine.proofs.nodes.Found.add_child.Goals.{in-Inner+in_ok-add-in-Inner, in-Outer}

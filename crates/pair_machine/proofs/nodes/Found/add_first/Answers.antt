@@ -3,7 +3,7 @@ use Rattle.theory_addresses.specs.Tables.{kind_tables}
 use Rattle.pair_machine.specs.Numbers.{width_of}
 use Rattle.pair_machine.specs.Views.{as_node}
 use Rattle.pair_machine.specs.Searching.{kind_nodes, first_nodes}
-use Rattle.pair_machine.proofs.Finding.{first_nodes-none, first_nodes-more}
+use Rattle.pair_machine.proofs.NodeLoops.{first_nodes-none, first_nodes-more}
 use Rattle.pair_machine.proofs.Marks.{covers_none, covers_more}
 use Rattle.pair_machine.proofs.nodes.Found.add_first.Goals as goal
 

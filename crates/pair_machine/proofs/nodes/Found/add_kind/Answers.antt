@@ -3,7 +3,7 @@ use Rattle.theory_addresses.specs.Tables.{contacts_of}
 use Rattle.pair_machine.specs.Numbers.{width_of}
 use Rattle.pair_machine.specs.Views.{as_node}
 use Rattle.pair_machine.specs.Searching.{child_nodes, kind_nodes}
-use Rattle.pair_machine.proofs.Finding.{kind_nodes-none, kind_nodes-more}
+use Rattle.pair_machine.proofs.NodeLoops.{kind_nodes-none, kind_nodes-more}
 use Rattle.pair_machine.proofs.Marks.{covers_none, covers_more}
 use Rattle.pair_machine.proofs.nodes.Found.add_kind.Goals as goal
 

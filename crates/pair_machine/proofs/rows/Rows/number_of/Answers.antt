@@ -7,7 +7,7 @@ use Rattle.pair_machine.specs.Views.{as_node, as_row_pair}
 use Rattle.pair_machine.proofs.Finding.{node_small}
 use Rattle.pair_machine.proofs.KeptOnce.{place_old, place_new, indexed_new}
 use Rattle.pair_machine.proofs.Places.{read_at}
-use Rattle.pair_machine.proofs.RowKeys.{key_within}
+use Rattle.pair_machine.proofs.KeyRows.{key_within}
 use Rattle.pair_machine.proofs.rows.Rows.number_of.Goals as goal
 
 pub key-key-requires-clause-mine : goal.key-key-requires-clause-mine

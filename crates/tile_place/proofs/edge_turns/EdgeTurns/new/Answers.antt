@@ -3,7 +3,8 @@ use Rattle.std.proofs.Math.ListN.{length-map}
 use Rattle.rule_model.specs.Tiling.{tiling_of}
 use Rattle.theory_substitution.specs.RuleParts.{edge_count}
 use Rattle.tile_place.specs.EdgeTurns.{EdgeTable}
-use Rattle.tile_place.proofs.TurnedPlaces.{IsEdgeTurn, one_more-edge, in-row}
+use Rattle.tile_place.proofs.Rows.{in-row}
+use Rattle.tile_place.proofs.TurnedPlaces.{IsEdgeTurn, one_more-edge}
 use Rattle.tile_place.proofs.edge_turns.EdgeTurns.new.Goals as goal
 
 pub loop-place-preserved : goal.loop-place-preserved

@@ -1,4 +1,5 @@
 use Rattle.std.proofs.Common.{◌≡◌, ◌+◌, ◌-◌, suc, length, map, get_or, None, Some, IfSome, [], refl, sym, ap, ◌∙◌, subst, arith}
+use Rattle.std.proofs.lemmas.Grind.{common_steps}
 use Rattle.std.specs.Option.{option_map}
 use Rattle.std.proofs.lemmas.List.{length-map}
 use Rattle.theory_ring.specs.Ring.{power}
@@ -22,25 +23,29 @@ bounds-powers-level c =
       arith,
       ap length c.requires.powers.in_order,
       powers-length (points_of m.order) (rule_of m).factor 0
-          (c.args.depth + 1),
+          (c.args.whole.now.depth + 1),
       length-map c.args.powers.now (point_in m.order),
       c.loop-level.invariant.count,
       c.loop-level-test.true,
     )
 
-pub holder-requires-clause-scale_within : goal.holder-requires-clause-scale_within
-holder-requires-clause-scale_within c =
+pub holder-requires-clause-whole : goal.holder-requires-clause-whole
+holder-requires-clause-whole c =
     let m = c.args.self.now in
-    c.requires.powers.within (c.loop-level.level - 1) _
-    (omega (
-      arith,
-      ap length c.requires.powers.in_order,
-      powers-length (points_of m.order) (rule_of m).factor 0
-          (c.args.depth + 1),
-      length-map c.args.powers.now (point_in m.order),
-      c.loop-level.invariant.count,
-      c.loop-level-test.true,
-    ))
+    record {
+      kind_exists = c.loop-level.invariant.kind_exists;
+      scale_within = c.requires.powers.within (c.loop-level.level - 1) _
+          (omega (
+            arith,
+            ap length c.requires.powers.in_order,
+            powers-length (points_of m.order) (rule_of m).factor 0
+                (c.args.whole.now.depth + 1),
+            length-map c.args.powers.now (point_in m.order),
+            c.loop-level.invariant.count,
+            c.loop-level-test.true,
+          ));
+      moves = c.loop-level.invariant.moves;
+    }
 
 pub loop-level-preserved : goal.loop-level-preserved
 loop-level-preserved c =
@@ -50,7 +55,7 @@ loop-level-preserved c =
     let n = c.loop-level.level - 1 in
     let scale = point_in m.order (get_or c.args.powers.now n (record { c = [] })) in
     let down : c.loop-level.level ≡ suc n = omega (arith, c.loop-level-test.true) in
-    let power_is : scale ≡ power P.ring r.factor n = power-read m.order r.factor (c.args.depth + 1)
+    let power_is : scale ≡ power P.ring r.factor n = power-read m.order r.factor (c.args.whole.now.depth + 1)
     c.args.powers.now n (record { c = [] }) c.requires.powers.in_order
     (omega (arith, c.loop-level.invariant.count, c.loop-level-test.true)) in
     let part = c.in-Ok-Some.part in
@@ -62,7 +67,7 @@ loop-level-preserved c =
     let at = motion_in m.order c.loop-level.motion in
     record {
       values = values_on P r (is_refused m.order) c.loop-level.top n c.loop-level.level at point scale down
-          power_is (part_in m.order part) held c.in-Ok-Some.ensures.none_refused
+          power_is (part_in m.order part) held c.in-Ok-Some.ensures.visits.none_refused
           ∙ c.loop-level.invariant.values;
       tile =
           ap (λ xs. option_map (of_whole (map step_of xs)) (tile_below P r part.kind n (motion_in m.order part.motion) point)) c.insert.ensures.items
@@ -86,7 +91,7 @@ returns-in-Ok-None-clause-fault c =
     let n = c.loop-level.level - 1 in
     let scale = point_in m.order (get_or c.args.powers.now n (record { c = [] })) in
     let down : c.loop-level.level ≡ suc n = omega (arith, c.loop-level-test.true) in
-    let power_is : scale ≡ power P.ring r.factor n = power-read m.order r.factor (c.args.depth + 1)
+    let power_is : scale ≡ power P.ring r.factor n = power-read m.order r.factor (c.args.whole.now.depth + 1)
     c.args.powers.now n (record { c = [] }) c.requires.powers.in_order
     (omega (arith, c.loop-level.invariant.count, c.loop-level-test.true)) in
     let point = point_in m.order c.args.point.now in
@@ -94,7 +99,7 @@ returns-in-Ok-None-clause-fault c =
     let held : None ≡ holder P r scale at point 0 (children_of r c.loop-level.top) =
     ap (option_map (part_in m.order)) (sym c.in-Ok-None.field-0-is) ∙ c.in-Ok-None.ensures.held in (
       sym c.loop-level.invariant.values ∙ values_end P r (is_refused m.order) c.loop-level.top n
-          c.loop-level.level at point scale down power_is held c.in-Ok-None.ensures.none_refused,
+          c.loop-level.level at point scale down power_is held c.in-Ok-None.ensures.visits.none_refused,
       sym c.loop-level.invariant.tile ∙ ap (option_map (of_whole (map step_of c.loop-level.digits.items)))
           (tile_none P r (is_refused m.order) c.loop-level.top n c.loop-level.level at point scale down
           power_is held),
@@ -108,13 +113,21 @@ returns-in-Err-clause-fault c =
     let n = c.loop-level.level - 1 in
     let scale = point_in m.order (get_or c.args.powers.now n (record { c = [] })) in
     let down : c.loop-level.level ≡ suc n = omega (arith, c.loop-level-test.true) in
-    let power_is : scale ≡ power P.ring r.factor n = power-read m.order r.factor (c.args.depth + 1)
+    let power_is : scale ≡ power P.ring r.factor n = power-read m.order r.factor (c.args.whole.now.depth + 1)
     c.args.powers.now n (record { c = [] }) c.requires.powers.in_order
     (omega (arith, c.loop-level.invariant.count, c.loop-level-test.true)) in
     let point = point_in m.order c.args.point.now in
     let at = motion_in m.order c.loop-level.motion in (
       sym c.loop-level.invariant.values ∙ refused_here P r (is_refused m.order) c.loop-level.top n
           c.loop-level.level at point scale down power_is _ (point_in m.order c.in-Err.limit.value) refl
-          c.in-Err.ensures.limit,
-      c.in-Err.ensures.limit_in_order,
+          c.in-Err.ensures.visits.limit.first,
+      c.in-Err.ensures.visits.limit.in_order,
     )
+
+pub returns-clause-found : goal.returns-clause-found
+returns-clause-found c = record {
+  holder = grind (arith, common_steps);
+  its_kind = refl;
+  moves = c.loop-level.invariant.moves;
+  none_refused = grind (arith, common_steps);
+}

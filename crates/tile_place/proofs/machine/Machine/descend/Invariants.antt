@@ -15,15 +15,16 @@ abbrev pub invariant-loop-level : goal.invariant-loop-level
 invariant-loop-level l = record {
   values : find (is_refused l.self.order) (values_below (points_of l.self.order) (rule_of l.self) l.top
       l.level (motion_in l.self.order l.motion) (point_in l.self.order l.point))
-      ≡ find (is_refused l.self.order) (values_below (points_of l.self.order) (rule_of l.self) l.kind l.depth
-      (motion_in l.self.order l.at) (point_in l.self.order l.point));
+      ≡ find (is_refused l.self.order) (values_below (points_of l.self.order) (rule_of l.self) l.whole.kind l.whole.depth
+      (motion_in l.self.order l.whole.at.now) (point_in l.self.order l.point));
   tile : option_map (of_whole (map step_of l.digits.items))
       (tile_below (points_of l.self.order) (rule_of l.self) l.top l.level (motion_in l.self.order l.motion)
       (point_in l.self.order l.point))
-      ≡ tile_below (points_of l.self.order) (rule_of l.self) l.kind l.depth (motion_in l.self.order l.at) (point_in l.self.order l.point);
+      ≡ tile_below (points_of l.self.order) (rule_of l.self) l.whole.kind l.whole.depth
+      (motion_in l.self.order l.whole.at.now) (point_in l.self.order l.point);
   kind_exists : l.top < length (rule_of l.self).kinds;
   moves : IsMotionOf l.self.order (2 ^ 24) l.motion;
-  count : length l.digits.items + l.level ≡ l.depth;
+  count : length l.digits.items + l.level ≡ l.whole.depth;
 }
 
 abbrev pub decreases-loop-level : goal.decreases-loop-level

@@ -12,7 +12,7 @@ use Rattle.tile_place.proofs.machine.Machine.end_of.Goals.{After-next_of-end}
 pub vertices-requires : goal.vertices-requires
 vertices-requires c = record {
   exists = subst (λ (r : Rule). c.args.kind < length (rule_of r).kinds)
-      (sym c.checked.ensures.rule) (kind_listed c.args.self.now c.args.kind c.args.edge c.requires.exists);
+      (sym c.checked.ensures.rule) (kind_listed c.args.self.now c.args.kind c.args.edge c.requires.turned_edge.exists);
 }
 
 pub next_of-end-requires : goal.next_of-end-requires
@@ -21,11 +21,11 @@ next_of-end-requires c =
     let edges : length c.vertices.result.now ≡ edge_count (rule_of m) c.args.kind
     = c.vertices.ensures.each_edge ∙ ap (λ (r : Rule). edge_count (rule_of r) c.args.kind)
     c.checked.ensures.rule in
-    let listed = c.requires.exists in
+    let listed = c.requires.turned_edge.exists in
     record { exists = omega (arith, edges, listed, c.from.ensures) }
 
 pub turned_vertex-requires-clause-exists : goal.turned_vertex-requires-clause-exists
-turned_vertex-requires-clause-exists c = kind_listed c.args.self.now c.args.kind c.args.edge c.requires.exists
+turned_vertex-requires-clause-exists c = kind_listed c.args.self.now c.args.kind c.args.edge c.requires.turned_edge.exists
 
 end_is : (c : After-next_of-end) → c.next_of-end.result ≡ next (rule_of c.args.self.now) c.args.kind c.args.edge
 end_is c =
@@ -38,7 +38,7 @@ pub turned_vertex-requires-clause-vertex_exists : goal.turned_vertex-requires-cl
 turned_vertex-requires-clause-vertex_exists c =
     let m = c.args.self.now in
     subst (λ e. e < edge_count (rule_of m) c.args.kind) (sym (end_is c))
-    (end-below (edge_count (rule_of m) c.args.kind) c.args.edge c.requires.exists)
+    (end-below (edge_count (rule_of m) c.args.kind) c.args.edge c.requires.turned_edge.exists)
 
 pub returns : goal.returns
 returns c = subst (λ e. IsTurned (tiling_of c.args.self.now) c.args.kind c.args.steps e

@@ -7,8 +7,10 @@ use Rattle.tile_place.proofs.GreatestTurns.{some_order}
 use Rattle.tile_place.proofs.Gluing.{glued}
 use Rattle.tile_place.proofs.machine.Machine.glue_motion.Goals as goal
 
-pub end_of-end-requires-clause-turn_below : goal.end_of-end-requires-clause-turn_below
-end_of-end-requires-clause-turn_below c = some_order c.args.self.now.order
+pub end_of-end-requires : goal.end_of-end-requires
+end_of-end-requires c = record {
+  turned_edge = record { exists = c.requires.edge_exists; turn_below = some_order c.args.self.now.order };
+}
 
 pub sub-requires-clause-p_within : goal.sub-requires-clause-p_within
 sub-requires-clause-p_within c = point_wider (2 ^ 7) (2 ^ 40) _ (lit≤ tt) c.end_of-end.ensures.within

@@ -11,30 +11,35 @@ use Rattle.cyclo_points.specs.Motion.{motion_in}
 use Rattle.rule_model.specs.Views.{rule_of}
 use Rattle.theory_addresses.specs.Search.{or_else}
 use Rattle.tile_place.specs.Parts.{part_in, IsPart}
-use Rattle.tile_place.proofs.Ahead.{handed_on}
+use Rattle.tile_place.proofs.Visits.{visits-refused}
 use Rattle.tile_place.proofs.Holders.{sought-next, values-next, values-here, IfSome-or_else}
 use Rattle.tile_place.proofs.machine.Machine.holder.Goals as goal
 
-pub returns-in_err-seen-clause-limit : goal.returns-in_err-seen-clause-limit
-returns-in_err-seen-clause-limit c =
+pub returns-in_err-seen-clause-visits : goal.returns-in_err-seen-clause-visits
+returns-in_err-seen-clause-visits c =
     let m = c.args.self.now in
     let P = points_of m.order in
-    handed_on c.from_residual.result c.in_err-seen.field-0.0 _ c.from_residual.ensures.1
-    (sym c.loop-number.invariant.first
-    ∙ values-here P (rule_of m) (point_in m.order c.args.scale.now) (motion_in m.order c.args.at.now)
-    (point_in m.order c.args.point.now) (children_of (rule_of m) c.args.kind) c.loop-number.number
-    (record { kind = 0; motion = still P })
-    (omega (arith, c.loop-number-test.true, c.loop-number.invariant.all)) (is_refused m.order) _ c.in_err-seen.ensures.limit)
+    visits-refused m.order _ c.from_residual.result c.in_err-seen.field-0.0 c.from_residual.ensures.1
+    (record {
+      first =
+          sym c.loop-number.invariant.first
+          ∙ values-here P (rule_of m) (point_in m.order c.args.whole.now.scale.now) (motion_in m.order c.args.whole.now.at.now)
+          (point_in m.order c.args.point.now) (children_of (rule_of m) c.args.whole.now.kind) c.loop-number.number
+          (record { kind = 0; motion = still P })
+          (omega (arith, c.loop-number-test.true, c.loop-number.invariant.all)) (is_refused m.order) _
+          c.in_err-seen.ensures.visits.limit.first;
+      in_order = c.in_err-seen.ensures.visits.limit.in_order;
+    })
 
 pub loop-number-preserved : goal.loop-number-preserved
 loop-number-preserved c =
     let m = c.args.self.now in
     let P = points_of m.order in
     let r = rule_of m in
-    let scale = point_in m.order c.args.scale.now in
-    let at = motion_in m.order c.args.at.now in
+    let scale = point_in m.order c.args.whole.now.scale.now in
+    let at = motion_in m.order c.args.whole.now.at.now in
     let point = point_in m.order c.args.point.now in
-    let cs = children_of r c.args.kind in
+    let cs = children_of r c.args.whole.now.kind in
     let n = c.loop-number.number in
     let none : Child (NumberOf m.order) = record { kind = 0; motion = still P } in
     let within : n < length cs = omega (arith, c.loop-number-test.true, c.loop-number.invariant.all) in
@@ -48,7 +53,7 @@ loop-number-preserved c =
           && holds_point P (outline P r p.kind scale p.motion) point) c.in_ok-seen.ensures.part)
           ∙ c.loop-number.invariant.held;
       first = sym (values-next P r scale at point cs n none within (is_refused m.order)
-          c.in_ok-seen.ensures.none_refused) ∙ c.loop-number.invariant.first;
+          c.in_ok-seen.ensures.visits.none_refused) ∙ c.loop-number.invariant.first;
       is_part = subst (λ x. IfSome x (IsPart m)) (sym c.first_held-held.ensures)
           (IfSome-or_else (IsPart m) c.loop-number.held seen.holds seen.part c.loop-number.invariant.is_part
           c.in_ok-seen.ensures.is_part);
@@ -67,14 +72,8 @@ returns-in_err-seen-clause-held c = grind (arith, common_steps)
 pub returns-in_err-seen-clause-is_part : goal.returns-in_err-seen-clause-is_part
 returns-in_err-seen-clause-is_part c = grind (arith, common_steps)
 
-pub returns-in_err-seen-clause-none_refused : goal.returns-in_err-seen-clause-none_refused
-returns-in_err-seen-clause-none_refused c = grind (arith, common_steps)
-
-pub returns-in_err-seen-clause-limit_in_order : goal.returns-in_err-seen-clause-limit_in_order
-returns-in_err-seen-clause-limit_in_order c = grind (arith, common_steps)
-
 pub returns-clause-held : goal.returns-clause-held
 returns-clause-held c = grind (arith, common_steps)
 
-pub returns-clause-none_refused : goal.returns-clause-none_refused
-returns-clause-none_refused c = grind (arith, common_steps)
+pub returns-clause-visits : goal.returns-clause-visits
+returns-clause-visits c = record { none_refused = grind (arith, common_steps); limit = tt }

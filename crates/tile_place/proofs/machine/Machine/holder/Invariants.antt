@@ -15,18 +15,18 @@ use Rattle.tile_place.proofs.machine.Machine.holder.Given as goal
 abbrev pub invariant-loop-number : goal.invariant-loop-number
 invariant-loop-number l = record {
   held : or_else (option_map (part_in l.self.order) l.held)
-      (holder (points_of l.self.order) (rule_of l.self) (point_in l.self.order l.scale)
-      (motion_in l.self.order l.at) (point_in l.self.order l.point) l.number
-      (drop l.number (children_of (rule_of l.self) l.kind)))
-      ≡ holder (points_of l.self.order) (rule_of l.self) (point_in l.self.order l.scale)
-      (motion_in l.self.order l.at) (point_in l.self.order l.point) 0
-      (children_of (rule_of l.self) l.kind);
+      (holder (points_of l.self.order) (rule_of l.self) (point_in l.self.order l.whole.scale.now)
+      (motion_in l.self.order l.whole.at.now) (point_in l.self.order l.point) l.number
+      (drop l.number (children_of (rule_of l.self) l.whole.kind)))
+      ≡ holder (points_of l.self.order) (rule_of l.self) (point_in l.self.order l.whole.scale.now)
+      (motion_in l.self.order l.whole.at.now) (point_in l.self.order l.point) 0
+      (children_of (rule_of l.self) l.whole.kind);
   first : find (is_refused l.self.order) (values_of_children (points_of l.self.order) (rule_of l.self)
-      (point_in l.self.order l.scale) (motion_in l.self.order l.at)
-      (drop l.number (children_of (rule_of l.self) l.kind)))
+      (point_in l.self.order l.whole.scale.now) (motion_in l.self.order l.whole.at.now)
+      (drop l.number (children_of (rule_of l.self) l.whole.kind)))
       ≡ find (is_refused l.self.order) (values_of_children (points_of l.self.order) (rule_of l.self)
-      (point_in l.self.order l.scale) (motion_in l.self.order l.at)
-      (children_of (rule_of l.self) l.kind));
+      (point_in l.self.order l.whole.scale.now) (motion_in l.self.order l.whole.at.now)
+      (children_of (rule_of l.self) l.whole.kind));
   is_part : IfSome l.held (IsPart l.self);
-  all : l.count ≡ length (children_of (rule_of l.self) l.kind);
+  all : l.count ≡ length (children_of (rule_of l.self) l.whole.kind);
 }

@@ -1,4 +1,5 @@
-use Rattle.std.proofs.Common.{◌≡◌, ℕ, ◌^◌, Result, Ok, Err, IfOk, Some, Option, ap, ◌∙◌, subst}
+use Rattle.std.proofs.Common.{◌≡◌, ℕ, Result, Ok, Err, IfOk, Some, List, Option, ap, ◌∙◌, subst}
+use Rattle.std.proofs.lemmas.Result.{IfOk-weaker}
 use Rattle.theory_addresses.specs.Address.{depth as depth_of, Fits}
 use Rattle.theory_substitution.specs.Motion.{followed}
 use Rattle.theory_substitution.specs.Placement.{placement}
@@ -16,18 +17,18 @@ use Rattle.tile_shape.specs.Views.{address_of}
 use Rattle.tile_place.specs.declared.placed_tile.PlacedTile.{PlacedTile}
 use Rattle.tile_place.specs.declared.locate_fault.LocateFault.{LocateFault}
 use Rattle.tile_place.specs.Located.{IsOfSupertile, IsOnlyTileHolding}
-use Rattle.tile_place.specs.Motions.{IsMotionOf}
-use Rattle.tile_place.specs.Searched.{placed_in}
+use Rattle.tile_place.specs.Searched.{placed_in, IsFoundTile}
 use Rattle.tile_place.proofs.Plane.{IsSettled}
 use Rattle.tile_place.proofs.Located.{located-only, located-depth, located-fits, located-motion, causes, found_exactly, not_inside}
 use Rattle.tile_place.proofs.machine.Machine.locate.Goals.{After-search}
 use Rattle.tile_place.proofs.machine.Machine.locate.Goals as goal
 
 -- what is so of the tile that a search finds is so of its answer
-so_of : (o : Order) (x : Result PlacedTile LocateFault) (tile : Option (Placed (NumberOf o))) (Q : Placed (NumberOf o) → Type 0)
-    → ((t : Placed (NumberOf o)) → tile ≡ Some t → Q t) → IfOk x (λ t. tile ≡ Some (placed_in o t)) → IfOk x (λ t. Q (placed_in o t))
-so_of o (Ok t) tile Q each h = each (placed_in o t) h
-so_of o (Err f) tile Q each h = tt
+so_of : (o : Order) (x : Result PlacedTile LocateFault) (values : List (NumberOf o)) (tile : Option (Placed (NumberOf o)))
+    (Q : Placed (NumberOf o) → Type 0) → ((t : Placed (NumberOf o)) → tile ≡ Some t → Q t)
+    → IfOk x (IsFoundTile o values tile) → IfOk x (λ t. Q (placed_in o t))
+so_of o (Ok t) values tile Q each h = each (placed_in o t) h.holder
+so_of o (Err f) values tile Q each h = tt
 
 settled : (m : Rule) (o : Order) (r : Rule) → o ≡ r.order → r ≡ m → PointsLaw o → DissectionLaw (points_of o)
     → PointsLaw m.order × DissectionLaw (points_of m.order)
@@ -52,7 +53,7 @@ found : (c : After-search) (Q : Placed (NumberOf c.args.self.now.order) → Type
     → tile_holding (points_of c.args.self.now.order) (rule_of c.args.self.now) c.args.kind c.args.depth
     (motion_in c.args.self.now.order c.args.at.now) (point_in c.args.self.now.order c.args.point.now) ≡ Some t → Q t)
     → IfOk c.search.result (λ t. Q (placed_in c.args.self.now.order t))
-found c Q each = so_of c.args.self.now.order c.search.result _ Q each c.search.ensures.holder
+found c Q each = so_of c.args.self.now.order c.search.result _ _ Q each c.search.ensures.found
 
 pub returns-clause-only_tile : goal.returns-clause-only_tile
 returns-clause-only_tile c =
@@ -60,24 +61,24 @@ returns-clause-only_tile c =
     (point_in c.args.self.now.order c.args.point.now))
     (located-only c.args.self.now (its c) (laws c).0 (laws c).1 c.args.kind c.args.depth c.requires.supertile.exists _ c.requires.moves.turn_below _)
 
--- three facts of an answer
-all_of : (t : Tiling) (n : ℕ) (x : Result PlacedTile LocateFault) → IfOk x (λ y. y.kind ≡ y.addr.kind)
+-- the facts of an answer
+all_of : (t : Tiling) (n : ℕ) (x : Result PlacedTile LocateFault) (values : List (NumberOf t.order)) (tile : Option (Placed (NumberOf t.order)))
     → IfOk x (λ y. (depth_of (address_of y.addr) ≡ n) × Fits (children t) (address_of y.addr))
-    → IfOk x (λ y. IsMotionOf t.order (2 ^ 24) y.motion) → IfOk x (IsOfSupertile t n)
-all_of t n (Ok y) its_kind at moves = record { its_kind = its_kind; its_depth = at.0; its_address = at.1; moves = moves }
-all_of t n (Err f) its_kind at moves = tt
+    → IfOk x (IsFoundTile t.order values tile) → IfOk x (IsOfSupertile t n)
+all_of t n (Ok y) values tile at found = record { its_kind = found.its_kind; its_depth = at.0; its_address = at.1; moves = found.moves }
+all_of t n (Err f) values tile at found = tt
 
 pub returns-clause-of_supertile : goal.returns-clause-of_supertile
 returns-clause-of_supertile c =
     let m = c.args.self.now in
     let below = c.requires.moves.turn_below in
     let exists = c.requires.supertile.exists in
-    all_of (tiling_of m) c.args.depth c.search.result c.search.ensures.its_kind
+    all_of (tiling_of m) c.args.depth c.search.result _ _
     (found c (λ t. (depth_of t.address ≡ c.args.depth) × Fits (children (tiling_of m)) t.address) (λ t e. (
       located-depth m (its c) (laws c).0 (laws c).1 c.args.kind c.args.depth exists _ below _ t e,
       located-fits m (its c) (laws c).0 (laws c).1 c.args.kind c.args.depth exists _ below _ t e,
     )))
-    c.search.ensures.moves
+    c.search.ensures.found
 
 pub returns-clause-its_motion : goal.returns-clause-its_motion
 returns-clause-its_motion c = found c (λ t. t.motion ≡ followed (points_of c.args.self.now.order)
@@ -88,14 +89,17 @@ returns-clause-its_motion c = found c (λ t. t.motion ≡ followed (points_of c.
 pub returns-clause-not_inside : goal.returns-clause-not_inside
 returns-clause-not_inside c =
     not_inside c.args.self.now (its c) (laws c).0 (laws c).1 c.args.kind c.args.depth c.requires.supertile.exists _ c.requires.moves.turn_below _
-    c.search.result c.search.ensures.holder c.search.ensures.none_refused c.search.ensures.fault
+    c.search.result c.search.ensures.found c.search.ensures.fault
 
 pub returns-clause-found_exactly : goal.returns-clause-found_exactly
 returns-clause-found_exactly c =
     found_exactly c.args.self.now (its c) (laws c).0 (laws c).1 c.args.kind c.args.depth c.requires.supertile.exists _ c.requires.moves.turn_below _
-    c.search.result c.search.ensures.holder c.search.ensures.none_refused c.search.ensures.fault
+    c.search.result c.search.ensures.found c.search.ensures.fault
 
 pub returns-clause-fault : goal.returns-clause-fault
 returns-clause-fault c =
     causes c.args.self.now (its c) (laws c).0 (laws c).1 c.args.kind c.args.depth c.requires.supertile.exists _ c.requires.moves.turn_below _
-    c.search.result c.search.ensures.holder c.search.ensures.none_refused c.search.ensures.fault
+    c.search.result c.search.ensures.found c.search.ensures.fault
+
+pub returns-clause-by_descent : goal.returns-clause-by_descent
+returns-clause-by_descent c = IfOk-weaker c.search.result _ _ (λ t h. h.holder) c.search.ensures.found

@@ -7,11 +7,11 @@ use Rattle.tile_place.proofs.Gluing.{kind_listed}
 use Rattle.tile_place.proofs.machine.Machine.start_of.Goals as goal
 
 pub turned_vertex-requires-clause-exists : goal.turned_vertex-requires-clause-exists
-turned_vertex-requires-clause-exists c = kind_listed c.args.self.now c.args.kind c.args.edge c.requires.exists
+turned_vertex-requires-clause-exists c = kind_listed c.args.self.now c.args.kind c.args.edge c.requires.turned_edge.exists
 
 pub turned_vertex-requires-clause-vertex_exists : goal.turned_vertex-requires-clause-vertex_exists
 turned_vertex-requires-clause-vertex_exists c =
-    subst (λ e. e < edge_count (rule_of c.args.self.now) c.args.kind) (sym c.from.ensures) c.requires.exists
+    subst (λ e. e < edge_count (rule_of c.args.self.now) c.args.kind) (sym c.from.ensures) c.requires.turned_edge.exists
 
 pub returns : goal.returns
 returns c = subst (λ e. IsTurned (tiling_of c.args.self.now) c.args.kind c.args.steps e c.turned_vertex.result) c.from.ensures c.turned_vertex.ensures

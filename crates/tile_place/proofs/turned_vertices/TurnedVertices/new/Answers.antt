@@ -1,5 +1,4 @@
 use Rattle.std.proofs.Common.{IsSome, map, sym, subst, arith}
-use Rattle.std.proofs.lemmas.Grind.{common_steps}
 use Rattle.theory_addresses.specs.Tables.{Tables, type_of}
 use Rattle.rule_model.specs.Tiling.{tiling_of}
 use Rattle.tile_place.specs.TurnedVertices.{widened, AreTurned}
@@ -25,12 +24,6 @@ returns c =
 
 pub returns-in_err-points : goal.returns-in_err-points
 returns-in_err-points c = grind arith
-
-pub push_by_order-requires-clause-few : goal.push_by_order-requires-clause-few
-push_by_order-requires-clause-few c = grind (arith, common_steps)
-
-pub push_by_order-requires-clause-rows : goal.push_by_order-requires-clause-rows
-push_by_order-requires-clause-rows c = grind (arith, common_steps)
 
 pub returns-in_err-push_by_order : goal.returns-in_err-push_by_order
 returns-in_err-push_by_order c = grind arith

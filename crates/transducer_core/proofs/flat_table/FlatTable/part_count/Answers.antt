@@ -3,7 +3,7 @@ use Rattle.theory_addresses.specs.Tables.{Tables}
 use Rattle.transducer_core.specs.Flat.{lists_of}
 use Rattle.transducer_core.specs.FlatTables.{IsFlat}
 use Rattle.transducer_core.specs.Merging.{AreBlocksKept}
-use Rattle.transducer_core.proofs.Joining.{count_read}
+use Rattle.transducer_core.proofs.CountsRead.{count_read}
 use Rattle.transducer_core.proofs.Standing.{read_at}
 use Rattle.transducer_core.proofs.flat_table.FlatTable.part_count.Goals as goal
 

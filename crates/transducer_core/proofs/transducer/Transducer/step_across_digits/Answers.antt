@@ -1,10 +1,11 @@
-use Rattle.std.proofs.Common.{◌≡◌, ◌∙◌, refl, sym, length, map, take}
+use Rattle.std.proofs.Common.{◌≡◌, ◌/◌, ◌∙◌, arith, refl, sym, length, map, take}
 use Rattle.std.proofs.Math.Seq.{take-length}
 use Rattle.std.proofs.lemmas.List.{length-map}
 use Rattle.tile_shape.specs.Views.{step_of}
 use Rattle.theory_addresses.specs.Address.{Address, depth}
 use Rattle.theory_addresses.specs.Coherent.{IsCoherent}
 use Rattle.theory_addresses.specs.Trace.{HasTrace, first_part}
+use Rattle.theory_addresses.proofs.TableBounds.{type_bounds}
 use Rattle.theory_addresses.proofs.Traces.{IsTrace-unique}
 use Rattle.theory_addresses.proofs.Touching.{trace_excludes_touch}
 use Rattle.transducer_core.specs.Descending.{StartsDown}
@@ -16,19 +17,21 @@ use Rattle.transducer_core.proofs.transducer.Transducer.step_across_digits.Goals
 pub returns-in-Err-clause-crossing : goal.returns-in-Err-clause-crossing
 returns-in-Err-clause-crossing g c =
     let a : Address = record { kind = c.args.kind.now; digits = map step_of c.args.digits.now } in
+    let side = c.write_down-side.result in
+    let b : Address = record { kind = side.row / 256; digits = map step_of c.write_down-side.new.digits } in
     let starts : StartsDown c.self.inside.flat a c.args.edge c.in-Err.meeting (take c.in-Err.meeting.level c.climb.new.parts) =
     record { fits = rw c.self.view_is c.requires.fits; edge_exists = rw c.self.view_is c.requires.edge_exists; meets = c.in-Err.ensures.ends } in
-    let touches = c.descend.ensures.touches c.args.edge starts in
+    let touches = c.write_down-side.ensures.touches a.kind c.args.edge starts in
     record {
-      across = rw (← c.self.view_is) (is_across a (record { kind = c.descend.new.kind; digits = map step_of c.descend.new.digits }) c.args.edge
-          c.descend.result c.self.invariant starts.fits starts.edge_exists touches c.descend.ensures.fits
-          c.descend.ensures.edge_exists);
+      across = rw (← c.self.view_is) (is_across a b c.args.edge
+          side.edge c.self.invariant starts.fits starts.edge_exists touches c.write_down-side.ensures.fits
+          c.write_down-side.ensures.edge_exists);
       on_boundary = tt;
       across_when = λ b f fits touched. refl;
       boundary_when = λ own part lies.
           let trace : HasTrace c.self.inside.flat a c.args.edge own lies.cuts = rw c.self.view_is lies.trace in
-          absurd (trace_excludes_touch a (record { kind = c.descend.new.kind; digits = map step_of c.descend.new.digits }) c.self.invariant
-          starts.fits c.descend.ensures.fits starts.edge_exists trace touches);
+          absurd (trace_excludes_touch a b c.self.invariant
+          starts.fits c.write_down-side.ensures.fits starts.edge_exists trace touches);
     }
 
 -- the boundary
@@ -49,3 +52,9 @@ returns-in-Ok-clause-crossing g c =
           let same = IsTrace-unique trace lies.trace in
           rw (part, lies.is_part, same.0, same.1) refl;
     }
+
+pub overflow_cast-result : goal.overflow_cast-result
+overflow_cast-result g c =
+    let side = c.write_down-side.result in
+    let b = type_bounds c.self.inside.flat (side.row / 256) side.edge c.write_down-side.ensures.edge_exists in
+    omega (arith, b.1, c.self.invariant.at_most_12_edges (side.row / 256) b.0)
