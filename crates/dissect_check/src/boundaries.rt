@@ -11,6 +11,7 @@ ghost use Rattle.dissect_check.specs.Agrees.{Agrees};
 ghost use Rattle.dissect_check.specs.FirstFault.{boundary_of_kind, boundaries};
 ghost use Rattle.dissect_check.specs.Views.{IsInflated, AreInflated};
 ghost use Rattle.dissect_check.specs.Parts.{AreParts};
+ghost use Rattle.dissect_check.specs.Places.{IsKindOf};
 
 use crate::boundary::parts_of_edge;
 use crate::check_fault::CheckFault;
@@ -29,7 +30,7 @@ fn parts_of_kind(
     kind: usize,
 ) -> Result<Vec<Vec<ChildEdge>>, CheckFault>
     requires usable { IsUsable rule.now }
-    requires kind_exists { kind < length (rule_of rule.now).kinds }
+    requires kind_exists { IsKindOf rule.now kind }
     requires inflated { IsInflated rule.now kind parent.now }
     ensures fault { Agrees result (boundary_of_kind rule.now.order (as_rule rule.now) kind) }
     ensures parts { IfOk result (λ parts. AreParts rule.now kind parts.items) }
@@ -49,7 +50,7 @@ fn tables_of_kind(
     kind: usize,
 ) -> Result<KindRows, CheckFault>
     requires usable { IsUsable rule.now }
-    requires kind_exists { kind < length (rule_of rule.now).kinds }
+    requires kind_exists { IsKindOf rule.now kind }
     requires inflated { IsInflated rule.now kind parent.now }
     ensures fault { Agrees result (boundary_of_kind rule.now.order (as_rule rule.now) kind) }
     ensures tables { IfOk result (λ rows. as_kind_tables rows

@@ -10,6 +10,7 @@ ghost use Rattle.rule_model.specs.declared.rule.Rule.{Rule as ProgramRule};
 ghost use Rattle.rule_model.specs.Views.{rule_of};
 ghost use Rattle.dissect_check.specs.Views.{as_lie, IsInflated};
 ghost use Rattle.dissect_check.specs.Parts.{LiesBelow, AreFew, AreParts};
+ghost use Rattle.dissect_check.specs.Places.{IsKindOf};
 
 use crate::inflated::Inflated;
 use crate::lie::Lie;
@@ -85,7 +86,7 @@ fn contacts_of_kind(
     kind: usize,
     parts: &[Vec<ChildEdge>],
 ) -> Result<Vec<Vec<Contact>>, NoMemory>
-    requires kind_exists { kind < length (rule_of rule.now).kinds }
+    requires kind_exists { IsKindOf rule.now kind }
     requires inflated { IsInflated rule.now kind inflated.now }
     requires parts { AreParts rule.now kind parts.now }
     ensures { IfOk result (λ lists. map (λ list. map as_contact list.items) lists.items
@@ -101,7 +102,7 @@ fn contacts_of_kind(
 
 /// The type of each edge of a kind.
 fn types_of_kind(alloc: Global, rule: &Rule, kind: usize) -> Result<Vec<u8>, NoMemory>
-    requires { kind < length (rule_of rule.now).kinds }
+    requires { IsKindOf rule.now kind }
     ensures { IfOk result (λ types. types.items ≡ edge_types (rule_of rule.now) kind) }
 {
     let mut types = Vec::new(alloc);
@@ -111,7 +112,7 @@ fn types_of_kind(alloc: Global, rule: &Rule, kind: usize) -> Result<Vec<u8>, NoM
 
 /// The kind of each child of a kind.
 fn kinds_of_children(alloc: Global, rule: &Rule, kind: usize) -> Result<Vec<u8>, NoMemory>
-    requires { kind < length (rule_of rule.now).kinds }
+    requires { IsKindOf rule.now kind }
     ensures { IfOk result (λ kinds. kinds.items
         ≡ map (λ (child : TheChild (NumberOf rule.now.order)). child.kind)
         (children_of (rule_of rule.now) kind)) }
@@ -128,7 +129,7 @@ pub(crate) fn rows_of_kind(
     kind: usize,
     parts: Vec<Vec<ChildEdge>>,
 ) -> Result<KindRows, NoMemory>
-    requires kind_exists { kind < length (rule_of rule.now).kinds }
+    requires kind_exists { IsKindOf rule.now kind }
     requires inflated { IsInflated rule.now kind inflated.now }
     requires parts { AreParts rule.now kind parts.items }
     ensures { IfOk result (λ rows. as_kind_tables rows
