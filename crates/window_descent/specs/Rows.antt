@@ -22,7 +22,7 @@ abbrev pub row_place : ℕ → ℕ → ℕ → ℕ
 row_place level kind turn = (level * 16 + kind) * 16 + turn
 
 -- the rule has such supertiles
-pub record IsTurned (m : Rule) (row : RowKey) : Type 0 where
+pub record IsRowOf (m : Rule) (row : RowKey) : Type 0 where
   pub kind_exists : row.kind < length (rule_of m).kinds
   pub turn_below : row.turn < (points_of m.order).order
 
@@ -64,7 +64,7 @@ pub record AreRows (m : Rule) (rows : Rows) : Type 0 where
 -- the rule has such supertiles, and the rows their level
 pub record HasRow (m : Rule) (rows : Rows) (row : RowKey) : Type 0 where
   pub level_exists : row.level < levels_of rows
-  pub turned : IsTurned m row
+  pub turned : IsRowOf m row
 
 -- the list has the children of a row from this place on
 abbrev pub HasChildren : Rule → Rows → RowKey → List Part → ℕ → Type 0

@@ -6,7 +6,7 @@ ghost use Rattle.rule_model.specs.Tiling.{tiling_of};
 ghost use Rattle.window_descent.specs.Parts.{IsPlacedPart, IsPlacedBy, standing_of};
 ghost use Rattle.window_descent.specs.Rows.{AreRows, levels_of};
 ghost use Rattle.window_descent.specs.declared.standing.Standing.TheVariants as Standing;
-ghost use Rattle.window_descent.specs.Reach.{IsInReach};
+ghost use Rattle.window_descent.specs.Reach.{IsInReach, HasArea};
 
 use crate::bounds::Bounds;
 use crate::meeting::meets;
@@ -57,9 +57,7 @@ fn by_bounds(
     requires part { IsPlacedPart machine.now part.now }
     requires rows { AreRows machine.now rows.old }
     requires level_exists { level < levels_of rows.old }
-    requires centre_within { IsInReach window.now }
-    requires some_width { 0 < window.now.w }
-    requires some_height { 0 < window.now.h }
+    requires window { HasArea window.now }
     ensures rows { AreRows machine.now rows.new }
     ensures levels { levels_of rows.new ≡ levels_of rows.old }
     ensures placed { IfSome result (IsPlacedBy (tiling_of machine.now) window.now level part.now) }
@@ -97,9 +95,7 @@ fn by_outline(
     requires part { IsPlacedPart machine.now part.now }
     requires scale_within { IsWithin (2 ^ 24) scale.now }
     requires scale_is { point_in machine.now.order scale.now ≡ factor_power (tiling_of machine.now) level }
-    requires centre_within { IsInReach window.now }
-    requires some_width { 0 < window.now.w }
-    requires some_height { 0 < window.now.h }
+    requires window { HasArea window.now }
     ensures placed { IfSome result (IsPlacedBy (tiling_of machine.now) window.now level part.now) }
 {
     let order = machine.checked().order();

@@ -4,7 +4,7 @@ ghost use Rattle.cyclo_points.specs.Order.{points_of};
 ghost use Rattle.cyclo_points.specs.Point.{IsWithin};
 ghost use Rattle.rule_model.specs.Views.{rule_of};
 ghost use Rattle.window_descent.specs.Bounds.{AreBounds};
-ghost use Rattle.window_descent.specs.Rows.{AreRows, HasRow, HasBounds, IsTurned};
+ghost use Rattle.window_descent.specs.Rows.{AreRows, HasRow, HasBounds, IsRowOf};
 
 use crate::bounds::Bounds;
 use crate::row_key::RowKey;
@@ -50,7 +50,7 @@ impl Rows {
 /// Returns the bounds of a scaled prototile that is turned and not shifted, or None if X or Y of a vertex is
 /// long.
 fn bounds_of(machine: &Machine, scale: &Point, row: RowKey) -> Option<Bounds>
-    requires row { IsTurned machine.now row }
+    requires row { IsRowOf machine.now row }
     requires scale_within { IsWithin (2 ^ 24) scale.now }
     ensures { IfSome result (AreBounds machine.now scale.now row.kind row.turn) }
 {

@@ -8,7 +8,7 @@ ghost use Rattle.rule_model.specs.Views.{rule_of};
 ghost use Rattle.theory_substitution.specs.Rule.{children_of};
 ghost use Rattle.window_descent.specs.Parts.{IsPartAt, IsPlacedPart};
 ghost use Rattle.window_descent.specs.Rows.{AreRows, IsChildRow, IsLonger, IsShifted, scale_of};
-ghost use Rattle.window_descent.specs.Rows.{levels_of, HasRow, HasChildren, IsTurned};
+ghost use Rattle.window_descent.specs.Rows.{levels_of, HasRow, HasChildren, IsRowOf};
 
 use crate::bounds::Bounds;
 use crate::part::{Part, part_of};
@@ -153,7 +153,7 @@ fn push_row(
     row: RowKey,
     children: &mut Vec<Part>,
 ) -> Result<bool, NoMemory>
-    requires row { IsTurned machine.now row }
+    requires row { IsRowOf machine.now row }
     requires scale_within { IsWithin (2 ^ 24) scale.now }
     ensures longer { IsLonger children.old.items children.new.items }
     ensures row { IfOk result (λ done. IsTrue done

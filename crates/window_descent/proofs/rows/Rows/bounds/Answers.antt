@@ -20,4 +20,5 @@ returns-in-Some-clause-bounds c =
     (omega (arith, there, place)) refl in
     subst (λ x. IfSome x (AreBounds m (scale_of rows c.args.row.level) c.args.row.kind c.args.row.turn))
     (ap (λ p. get_or rows.bounds.items p None) (sym place) ∙ sym read ∙ c.in-Some.is)
-    (c.requires.rows.bounded c.args.row.level c.args.row.kind c.args.row.turn c.requires.row.level_exists c.requires.row.turned.kind_exists c.requires.row.turned.turn_below)
+    (c.requires.rows.bounded c.args.row.level c.args.row.kind c.args.row.turn c.requires.row.level_exists
+    c.requires.row.turned.kind_exists c.requires.row.turned.turn_below)

@@ -19,4 +19,5 @@ returns-in-Some-clause-row c =
     (omega (arith, there, place)) refl in
     subst (λ x. IfSome x (IsChildRow m (scale_of rows c.args.row.level) c.args.row.kind c.args.row.turn rows.children.items))
     (ap (λ p. get_or rows.firsts.items p None) (sym place) ∙ sym read ∙ c.in-Some.is)
-    (c.requires.rows.made c.args.row.level c.args.row.kind c.args.row.turn c.requires.row.level_exists c.requires.row.turned.kind_exists c.requires.row.turned.turn_below)
+    (c.requires.rows.made c.args.row.level c.args.row.kind c.args.row.turn c.requires.row.level_exists
+    c.requires.row.turned.kind_exists c.requires.row.turned.turn_below)

@@ -44,7 +44,8 @@ returns-clause-rows c =
       room = length-set c.args.self.now.firsts.items c.place.result (Some c.in-Ok.first) ∙ rows.room;
       made = subst (λ place. AreMade m powers (set c.args.self.now.firsts.items place (Some c.in-Ok.first)) children) (sym c.place.ensures)
           (noted-more m kinds turns (length powers) (λ (l k t : ℕ). IsChildRow m (get_or powers l (record { c = [] })) k t children)
-          c.args.self.now.firsts.items level kind turn (Some c.in-Ok.first) c.requires.row.turned.kind_exists c.requires.row.turned.turn_below there row
+          c.args.self.now.firsts.items level kind turn (Some c.in-Ok.first)
+          c.requires.row.turned.kind_exists c.requires.row.turned.turn_below there row
           (made-longer m powers c.args.self.now.firsts.items c.args.self.now.children.items children c.push_row.ensures.longer rows.made));
       bounds_room = rows.bounds_room;
       bounded = rows.bounded;
