@@ -4,3 +4,4 @@ pub mod Views
 pub mod Few
 pub mod Boundary
 pub mod Parts
+pub mod Places

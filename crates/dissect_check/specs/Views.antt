@@ -1,5 +1,5 @@
 -- What the program keeps of an inflated prototile, in the terms of the theory.
-use Rattle.std.specs.Prelude.{◌≡◌, ℕ, ◌^◌, ◌<◌, List, map, length, get_or, All}
+use Rattle.std.specs.Prelude.{◌≡◌, ℕ, ◌^◌, ◌<◌, ◌≤◌, List, map, length, get_or, All}
 use Rattle.theory_edge_to_edge.specs.Edges as theory
 use Rattle.theory_edge_to_edge.specs.Edges.{child_edges, inflated_edges}
 use Rattle.theory_edge_to_edge.specs.Lying as theory_lying
@@ -37,6 +37,12 @@ pub record IsSmallLine (o : Order) (l : Line) : Type 0 where
 pub record IsFit (r : Rule) (s : PlacedEdge) : Type 0 where
   pub line : IsSmallLine r.order s.line
   pub type_exists : s.ty < length (rule_of r).types
+
+-- the edges of children are fit, and the edges of the inflated prototile are small and not too many
+pub record AreEdges (r : Rule) (edges : List PlacedEdge) (wholes : List Line) : Type 0 where
+  pub edges_fit : All (IsFit r) edges
+  pub at_most_12 : length wholes ≤ 12
+  pub wholes_small : All (IsSmallLine r.order) wholes
 
 -- the program has the inflated prototile of kind k, and where each child edge of it lies
 pub record IsInflated (r : Rule) (k : ℕ) (i : Inflated) : Type 0 where

@@ -1,7 +1,6 @@
 //! The clause that the boundary child edges along each inflated edge are its parts, and the contact
 //! tables that they give.
-ghost use Rattle.std.specs.Prelude.{◌≡◌, ◌<◌, map, length, IfOk};
-ghost use Rattle.theory_addresses.specs.Search.{below};
+ghost use Rattle.std.specs.Prelude.{◌≡◌, length, IfOk};
 ghost use Rattle.theory_edge_to_edge.specs.Contacts.{tables_of_kind};
 ghost use Rattle.cyclo_points.specs.Order.{points_of};
 ghost use Rattle.edge_tables.specs.Views.{as_kind_tables};
@@ -10,11 +9,12 @@ ghost use Rattle.rule_model.specs.Views.{as_rule, rule_of};
 ghost use Rattle.dissect_check.specs.Agrees.{Agrees};
 ghost use Rattle.dissect_check.specs.FirstFault.{boundary_of_kind, boundaries};
 ghost use Rattle.dissect_check.specs.Views.{IsInflated, AreInflated};
-ghost use Rattle.dissect_check.specs.Parts.{AreParts};
+ghost use Rattle.dissect_check.specs.Parts.{AreParts, AreTables};
+ghost use Rattle.dissect_check.specs.Places.{IsKindOf};
 
 use crate::boundary::parts_of_edge;
 use crate::check_fault::CheckFault;
-use crate::contacts::rows_of_kind;
+use crate::contacts::{contacts_of_kind, kinds_of_children, types_of_kind};
 use crate::inflated::Inflated;
 use edge_tables::child_edge::ChildEdge;
 use edge_tables::kind_rows::KindRows;
@@ -29,7 +29,7 @@ fn parts_of_kind(
     kind: usize,
 ) -> Result<Vec<Vec<ChildEdge>>, CheckFault>
     requires usable { IsUsable rule.now }
-    requires kind_exists { kind < length (rule_of rule.now).kinds }
+    requires kind_exists { IsKindOf rule.now kind }
     requires inflated { IsInflated rule.now kind parent.now }
     ensures fault { Agrees result (boundary_of_kind rule.now.order (as_rule rule.now) kind) }
     ensures parts { IfOk result (λ parts. AreParts rule.now kind parts.items) }
@@ -49,14 +49,19 @@ fn tables_of_kind(
     kind: usize,
 ) -> Result<KindRows, CheckFault>
     requires usable { IsUsable rule.now }
-    requires kind_exists { kind < length (rule_of rule.now).kinds }
+    requires kind_exists { IsKindOf rule.now kind }
     requires inflated { IsInflated rule.now kind parent.now }
     ensures fault { Agrees result (boundary_of_kind rule.now.order (as_rule rule.now) kind) }
     ensures tables { IfOk result (λ rows. as_kind_tables rows
         ≡ tables_of_kind (points_of rule.now.order) (rule_of rule.now) kind) }
 {
     let parts = parts_of_kind(alloc, rule, parent, kind)?;
-    Ok(rows_of_kind(alloc, rule, parent, kind, parts)?)
+    Ok(KindRows {
+        types: types_of_kind(alloc, rule, kind)?,
+        children: kinds_of_children(alloc, rule, kind)?,
+        contacts: contacts_of_kind(alloc, rule, parent, kind, &parts)?,
+        parts,
+    })
 }
 
 /// The contact tables of each kind, from the inflated prototiles, or the first part that fails, kind by kind.
@@ -68,9 +73,7 @@ pub(crate) fn boundaries(
     requires usable { IsUsable rule.now }
     requires inflated { AreInflated rule.now (length (rule_of rule.now).kinds) parents.now }
     ensures fault { Agrees result (boundaries rule.now.order (as_rule rule.now)) }
-    ensures tables { IfOk result (λ rows. map as_kind_tables rows.items
-        ≡ below (tables_of_kind (points_of rule.now.order) (rule_of rule.now))
-        (length (rule_of rule.now).kinds)) }
+    ensures tables { IfOk result (λ rows. AreTables rule.now rows.items) }
 {
     let mut rows = Vec::with_capacity(alloc, rule.kind_count())?;
     for kind in 0..rule.kind_count() {

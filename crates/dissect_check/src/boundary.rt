@@ -17,6 +17,7 @@ ghost use Rattle.dissect_check.specs.FirstFault.{part_fault};
 ghost use Rattle.dissect_check.specs.Views.{line_in, edge_in, as_lie, IsSmallLine, IsFit, IsInflated};
 ghost use Rattle.dissect_check.specs.Few.{few_of};
 ghost use Rattle.dissect_check.specs.Boundary.{names_of, as_parts};
+ghost use Rattle.dissect_check.specs.Places.{IsTypeOf, IsEdgeOf};
 
 use crate::check_fault::CheckFault;
 use crate::few::Few;
@@ -87,7 +88,7 @@ fn parts_among(
     requires usable { IsUsable rule.now }
     requires edges_fit { All (IsFit rule.now) edges.now }
     requires whole_small { IsSmallLine rule.now.order whole.now }
-    requires type_exists { ty < length (rule_of rule.now).types }
+    requires type_exists { IsTypeOf rule.now ty }
     ensures parts { IfOk result (λ found. as_parts found
         ≡ names_of (parts_along (points_of rule.now.order) (map (edge_in rule.now.order) edges.now)
         (line_in rule.now.order whole.now) (parts (rule_of rule.now) ty))) }
@@ -122,8 +123,7 @@ pub(crate) fn parts_of_edge(
     edge: usize,
 ) -> Result<Vec<ChildEdge>, CheckFault>
     requires usable { IsUsable rule.now }
-    requires kind_exists { kind < length (rule_of rule.now).kinds }
-    requires edge_exists { edge < edge_count (rule_of rule.now) kind }
+    requires edge_exists { IsEdgeOf rule.now kind edge }
     requires inflated { IsInflated rule.now kind inflated.now }
     ensures fault { Agrees result (part_fault kind edge
         (the_parts (points_of rule.now.order) (rule_of rule.now) kind edge)) }

@@ -1,13 +1,11 @@
 //! The check of a rule.
-ghost use Rattle.std.specs.Prelude.{◌≡◌, ◌↔◌, None, [], ◌∷◌, map, length, IfOk};
-ghost use Rattle.theory_addresses.specs.Search.{first_some, below};
-ghost use Rattle.theory_edge_to_edge.specs.Contacts.{tables_of_kind};
-ghost use Rattle.cyclo_points.specs.Order.{points_of};
-ghost use Rattle.edge_tables.specs.Views.{as_kind_tables};
+ghost use Rattle.std.specs.Prelude.{◌≡◌, ◌↔◌, None, [], ◌∷◌, IfOk};
+ghost use Rattle.theory_addresses.specs.Search.{first_some};
 ghost use Rattle.rule_model.specs.Accepted.{IsAccepted};
 ghost use Rattle.rule_model.specs.Usable.{IsUsable};
-ghost use Rattle.rule_model.specs.Views.{as_rule, rule_of};
+ghost use Rattle.rule_model.specs.Views.{as_rule};
 ghost use Rattle.dissect_check.specs.Agrees.{Agrees, IsOkOrMemory};
+ghost use Rattle.dissect_check.specs.Parts.{AreTables};
 ghost use Rattle.dissect_check.specs.FirstFault.{loose_edges as loose_fault, boundaries as boundary_fault, uses as uses_fault, glues as glues_fault, first_fault};
 
 use crate::boundaries::boundaries;
@@ -29,9 +27,7 @@ fn tables_of_kinds(alloc: Global, rule: &Rule) -> Result<Vec<KindRows>, CheckFau
     ensures fault { let o = rule.now.order in let l = as_rule rule.now in
         Agrees result (first_some (loose_fault o l ∷ boundary_fault o l ∷ uses_fault o l ∷ glues_fault o l
         ∷ [])) }
-    ensures tables { IfOk result (λ rows. map as_kind_tables rows.items
-        ≡ below (tables_of_kind (points_of rule.now.order) (rule_of rule.now))
-        (length (rule_of rule.now).kinds)) }
+    ensures tables { IfOk result (λ rows. AreTables rule.now rows.items) }
 {
     let parents = loose_edges(alloc, rule)?;
     let rows = boundaries(alloc, rule, parents.as_slice())?;

@@ -10,6 +10,7 @@ ghost use Rattle.cyclo_points.specs.Point.{point_in, IsOf, IsWithin};
 ghost use Rattle.rule_model.specs.Usable.{IsUsable};
 ghost use Rattle.rule_model.specs.Views.{rule_of};
 ghost use Rattle.dissect_check.specs.Views.{edge_in, IsFit};
+ghost use Rattle.dissect_check.specs.Places.{IsKindOf, IsChildOf};
 
 use crate::line::Line;
 use crate::placed_edge::PlacedEdge;
@@ -24,8 +25,7 @@ use tile_shape::no_memory::NoMemory;
 /// A vertex of a child.
 fn child_vertex(rule: &Rule, kind: usize, child: usize, i: usize) -> Point
     requires usable { IsUsable rule.now }
-    requires kind_in { kind < length (rule_of rule.now).kinds }
-    requires child_in { child < length (children_of (rule_of rule.now) kind) }
+    requires child_in { IsChildOf rule.now kind child }
     requires i_in { i < edge_count (rule_of rule.now)
         (child_of (points_of rule.now.order) (rule_of rule.now) kind child).kind }
     ensures value { let tile = child_of (points_of rule.now.order) (rule_of rule.now) kind child in
@@ -45,8 +45,7 @@ fn child_vertex(rule: &Rule, kind: usize, child: usize, i: usize) -> Point
 /// An edge of a child.
 fn child_edge(rule: &Rule, kind: usize, child: usize, edge: usize) -> PlacedEdge
     requires usable { IsUsable rule.now }
-    requires kind_in { kind < length (rule_of rule.now).kinds }
-    requires child_in { child < length (children_of (rule_of rule.now) kind) }
+    requires child_in { IsChildOf rule.now kind child }
     requires edge_in { edge < edge_count (rule_of rule.now)
         (child_of (points_of rule.now.order) (rule_of rule.now) kind child).kind }
     ensures value { edge_in rule.now.order result
@@ -73,8 +72,7 @@ fn add_child(
     edges: &mut Vec<PlacedEdge>,
 ) -> Result<(), NoMemory>
     requires usable { IsUsable rule.now }
-    requires kind_in { kind < length (rule_of rule.now).kinds }
-    requires child_in { child < length (children_of (rule_of rule.now) kind) }
+    requires child_in { IsChildOf rule.now kind child }
     requires all_fit { All (IsFit rule.now) edges.old.items }
     ensures value { OnOk result (map (edge_in rule.now.order) edges.new.items
         ≡ map (edge_in rule.now.order) edges.old.items
@@ -94,7 +92,7 @@ pub(crate) fn child_edges(
     kind: usize,
 ) -> Result<Vec<PlacedEdge>, NoMemory>
     requires usable { IsUsable rule.now }
-    requires kind_in { kind < length (rule_of rule.now).kinds }
+    requires kind_in { IsKindOf rule.now kind }
     ensures value { IfOk result (λ v. map (edge_in rule.now.order) v.items
         ≡ child_edges (points_of rule.now.order) (rule_of rule.now) kind) }
     ensures fit { IfOk result (λ v. All (IsFit rule.now) v.items) }

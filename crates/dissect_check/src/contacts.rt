@@ -3,19 +3,19 @@ ghost use Rattle.std.specs.Prelude.{◌≡◌, ◌≤◌, ◌<◌, ℕ, map, len
 ghost use Rattle.theory_substitution.specs.Rule.{Child as TheChild, children_of};
 ghost use Rattle.theory_substitution.specs.RuleParts.{edge_types};
 ghost use Rattle.theory_addresses.specs.Search.{below};
-ghost use Rattle.theory_edge_to_edge.specs.Contacts.{index_in, contact_by, contacts_of_child, tables_of_kind};
+ghost use Rattle.theory_edge_to_edge.specs.Contacts.{index_in, contact_by, contacts_of_child};
 ghost use Rattle.cyclo_points.specs.Order.{NumberOf, points_of};
-ghost use Rattle.edge_tables.specs.Views.{as_child_edge, as_contact, as_kind_tables};
+ghost use Rattle.edge_tables.specs.Views.{as_child_edge, as_contact};
 ghost use Rattle.rule_model.specs.declared.rule.Rule.{Rule as ProgramRule};
 ghost use Rattle.rule_model.specs.Views.{rule_of};
 ghost use Rattle.dissect_check.specs.Views.{as_lie, IsInflated};
 ghost use Rattle.dissect_check.specs.Parts.{LiesBelow, AreFew, AreParts};
+ghost use Rattle.dissect_check.specs.Places.{IsKindOf};
 
 use crate::inflated::Inflated;
 use crate::lie::Lie;
 use edge_tables::child_edge::ChildEdge;
 use edge_tables::contact::Contact;
-use edge_tables::kind_rows::KindRows;
 use rule_model::rule::Rule;
 use std::alloc::Global;
 use tile_shape::no_memory::NoMemory;
@@ -78,14 +78,14 @@ fn contacts_of_child(
 }
 
 /// What each edge of each child of a kind is.
-fn contacts_of_kind(
+pub(crate) fn contacts_of_kind(
     alloc: Global,
     rule: &Rule,
     inflated: &Inflated,
     kind: usize,
     parts: &[Vec<ChildEdge>],
 ) -> Result<Vec<Vec<Contact>>, NoMemory>
-    requires kind_exists { kind < length (rule_of rule.now).kinds }
+    requires kind_exists { IsKindOf rule.now kind }
     requires inflated { IsInflated rule.now kind inflated.now }
     requires parts { AreParts rule.now kind parts.now }
     ensures { IfOk result (λ lists. map (λ list. map as_contact list.items) lists.items
@@ -100,8 +100,8 @@ fn contacts_of_kind(
 }
 
 /// The type of each edge of a kind.
-fn types_of_kind(alloc: Global, rule: &Rule, kind: usize) -> Result<Vec<u8>, NoMemory>
-    requires { kind < length (rule_of rule.now).kinds }
+pub(crate) fn types_of_kind(alloc: Global, rule: &Rule, kind: usize) -> Result<Vec<u8>, NoMemory>
+    requires { IsKindOf rule.now kind }
     ensures { IfOk result (λ types. types.items ≡ edge_types (rule_of rule.now) kind) }
 {
     let mut types = Vec::new(alloc);
@@ -110,34 +110,16 @@ fn types_of_kind(alloc: Global, rule: &Rule, kind: usize) -> Result<Vec<u8>, NoM
 }
 
 /// The kind of each child of a kind.
-fn kinds_of_children(alloc: Global, rule: &Rule, kind: usize) -> Result<Vec<u8>, NoMemory>
-    requires { kind < length (rule_of rule.now).kinds }
+pub(crate) fn kinds_of_children(
+    alloc: Global,
+    rule: &Rule,
+    kind: usize,
+) -> Result<Vec<u8>, NoMemory>
+    requires { IsKindOf rule.now kind }
     ensures { IfOk result (λ kinds. kinds.items
         ≡ map (λ (child : TheChild (NumberOf rule.now.order)). child.kind)
         (children_of (rule_of rule.now) kind)) }
 {
     let row = &rule.kinds[kind];
     Ok(row.children.iter().map(|child| child.kind).collect(alloc)?)
-}
-
-/// The contact tables of a kind, from the parts of each of its edges.
-pub(crate) fn rows_of_kind(
-    alloc: Global,
-    rule: &Rule,
-    inflated: &Inflated,
-    kind: usize,
-    parts: Vec<Vec<ChildEdge>>,
-) -> Result<KindRows, NoMemory>
-    requires kind_exists { kind < length (rule_of rule.now).kinds }
-    requires inflated { IsInflated rule.now kind inflated.now }
-    requires parts { AreParts rule.now kind parts.items }
-    ensures { IfOk result (λ rows. as_kind_tables rows
-        ≡ tables_of_kind (points_of rule.now.order) (rule_of rule.now) kind) }
-{
-    Ok(KindRows {
-        types: types_of_kind(alloc, rule, kind)?,
-        children: kinds_of_children(alloc, rule, kind)?,
-        contacts: contacts_of_kind(alloc, rule, inflated, kind, &parts)?,
-        parts,
-    })
 }

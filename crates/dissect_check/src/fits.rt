@@ -6,6 +6,7 @@ ghost use Rattle.theory_edge_to_edge.specs.Limits.{is_type, is_child, kinds_fit,
 ghost use Rattle.cyclo_points.specs.Order.{points_of};
 ghost use Rattle.rule_model.specs.Small.{is_small};
 ghost use Rattle.rule_model.specs.Views.{as_rule, as_kind, as_child};
+ghost use Rattle.dissect_check.specs.Places.{ListsKind, ListsType};
 
 use cyclo_points::order::Order;
 use cyclo_points::point::Point;
@@ -72,7 +73,7 @@ pub(crate) fn glue_fits(rule: &Rule) -> bool
 
 /// Returns true if the type has 1 to 8 parts, each an edge type.
 pub(crate) fn parts_fit(rule: &Rule, ty: usize) -> bool
-    requires { ty < length (as_rule rule.now).types }
+    requires { ListsType rule.now ty }
     ensures { result ≡ parts_fit (as_rule rule.now) ty }
 {
     let parts = &rule.types[ty].parts;
@@ -81,7 +82,7 @@ pub(crate) fn parts_fit(rule: &Rule, ty: usize) -> bool
 
 /// The row of a kind.
 fn row(rule: &Rule, kind: usize) -> &KindRow
-    requires { kind < length (as_rule rule.now).kinds }
+    requires { ListsKind rule.now kind }
     ensures { as_kind result.now ≡ kind_of (as_rule rule.now) kind }
 {
     &rule.kinds[kind]
@@ -89,7 +90,7 @@ fn row(rule: &Rule, kind: usize) -> &KindRow
 
 /// Returns true if the kind has 3 to 12 edges, as many as vertices, each of a type.
 pub(crate) fn edges_fit(rule: &Rule, kind: usize) -> bool
-    requires { kind < length (as_rule rule.now).kinds }
+    requires { ListsKind rule.now kind }
     ensures { result ≡ edges_fit (as_rule rule.now) kind }
 {
     let row = row(rule, kind);
@@ -100,7 +101,7 @@ pub(crate) fn edges_fit(rule: &Rule, kind: usize) -> bool
 
 /// Returns true if each vertex of the kind is small.
 pub(crate) fn vertices_fit(rule: &Rule, kind: usize) -> bool
-    requires { kind < length (as_rule rule.now).kinds }
+    requires { ListsKind rule.now kind }
     ensures { result ≡ vertices_fit (is_small rule.now.order) (as_rule rule.now) kind }
 {
     are_small(rule.order, &row(rule, kind).vertices)
@@ -108,7 +109,7 @@ pub(crate) fn vertices_fit(rule: &Rule, kind: usize) -> bool
 
 /// Returns true if the kind has 1 to 16 children, each within its limits.
 pub(crate) fn children_fit(rule: &Rule, kind: usize) -> bool
-    requires { kind < length (as_rule rule.now).kinds }
+    requires { ListsKind rule.now kind }
     ensures { result ≡ children_fit (points_of rule.now.order).order (is_small rule.now.order)
         (as_rule rule.now) kind }
 {

@@ -10,6 +10,7 @@ ghost use Rattle.dissect_check.specs.declared.few.Few.TheVariants.{One};
 ghost use Rattle.dissect_check.specs.Agrees.{fault_in};
 ghost use Rattle.dissect_check.specs.Few.{few_of};
 ghost use Rattle.dissect_check.specs.FirstFault.{glues as glues_fault};
+ghost use Rattle.dissect_check.specs.Places.{IsTypeOf, IsKindOf};
 
 use crate::check_fault::CheckFault;
 use crate::few::Few;
@@ -18,7 +19,7 @@ use rule_model::rule::Rule;
 /// The kind that has the one edge of a type; or that no edge has it, or more than one.
 fn holders(rule: &Rule, ty: usize) -> Few<usize>
     ensures few { result ≡ few_of (holders (rule_of rule.now) ty) }
-    ensures kind_exists { (k : ℕ) → result ≡ One k → k < length (rule_of rule.now).kinds }
+    ensures kind_exists { (k : ℕ) → result ≡ One k → IsKindOf rule.now k }
 {
     let mut found = Few::None;
     for kind in 0..rule.kind_count() {
@@ -33,8 +34,8 @@ fn holders(rule: &Rule, ty: usize) -> Few<usize>
 
 /// Returns true if the kind has an edge of the type or its mate.
 fn has_edge_along(rule: &Rule, kind: usize, ty: usize) -> bool
-    requires kind_in { kind < length (rule_of rule.now).kinds }
-    requires ty_in { ty < length (rule_of rule.now).types }
+    requires kind_in { IsKindOf rule.now kind }
+    requires ty_in { IsTypeOf rule.now ty }
     ensures { result ≡ list_any (λ t. nat_eq t ty || nat_eq t (mate (rule_of rule.now) ty))
         (edge_types (rule_of rule.now) kind) }
 {
@@ -51,7 +52,7 @@ fn has_edge_along(rule: &Rule, kind: usize, ty: usize) -> bool
 /// Returns true if the kind has an edge of one of the first n glue types or their mates.
 fn is_glued_before(rule: &Rule, n: usize, kind: usize) -> bool
     requires usable { IsUsable rule.now }
-    requires kind_in { kind < length (rule_of rule.now).kinds }
+    requires kind_in { IsKindOf rule.now kind }
     requires n_within { n ≤ length (rule_of rule.now).glue }
     ensures { result ≡ is_glued_before (rule_of rule.now) n kind }
 {

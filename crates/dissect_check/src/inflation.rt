@@ -4,6 +4,7 @@ ghost use Rattle.std.specs.Prelude.{◌<◌, length, IfOk};
 ghost use Rattle.rule_model.specs.Usable.{IsUsable};
 ghost use Rattle.rule_model.specs.Views.{rule_of};
 ghost use Rattle.dissect_check.specs.Views.{IsInflated};
+ghost use Rattle.dissect_check.specs.Places.{IsKindOf};
 
 use crate::child_edges::child_edges;
 use crate::inflated::Inflated;
@@ -16,7 +17,7 @@ use tile_shape::no_memory::NoMemory;
 /// The inflated prototile of a kind.
 pub(crate) fn inflated(alloc: Global, rule: &Rule, kind: usize) -> Result<Inflated, NoMemory>
     requires usable { IsUsable rule.now }
-    requires kind_in { kind < length (rule_of rule.now).kinds }
+    requires kind_in { IsKindOf rule.now kind }
     ensures { IfOk result (λ i. IsInflated rule.now kind i) }
 {
     let wholes = inflated_edges(alloc, rule, kind)?;

@@ -10,6 +10,7 @@ ghost use Rattle.rule_model.specs.Usable.{IsUsable};
 ghost use Rattle.rule_model.specs.Views.{as_rule, rule_of};
 ghost use Rattle.dissect_check.specs.Agrees.{fault_in};
 ghost use Rattle.dissect_check.specs.FirstFault.{lengths as lengths_fault};
+ghost use Rattle.dissect_check.specs.Places.{IsTypeOf, IsEdgeOf};
 
 use crate::check_fault::CheckFault;
 use crate::wholes::next;
@@ -21,8 +22,7 @@ use rule_model::rule::Rule;
 /// The difference of the ends of an edge.
 fn edge_vector(rule: &Rule, kind: usize, edge: usize) -> Point
     requires usable { IsUsable rule.now }
-    requires kind_in { kind < length (rule_of rule.now).kinds }
-    requires edge_in { edge < edge_count (rule_of rule.now) kind }
+    requires edge_in { IsEdgeOf rule.now kind edge }
     ensures value { point_in rule.now.order result
         ≡ edge_vector (points_of rule.now.order) (rule_of rule.now) kind edge }
     ensures within { IsWithin (2 ^ 8) result }
@@ -35,7 +35,7 @@ fn edge_vector(rule: &Rule, kind: usize, edge: usize) -> Point
 /// The vector of the first edge, in order of kind and edge, that has the type or its mate.
 fn first_vector(rule: &Rule, ty: usize) -> Option<Point>
     requires usable { IsUsable rule.now }
-    requires ty_in { ty < length (rule_of rule.now).types }
+    requires ty_in { IsTypeOf rule.now ty }
     ensures value { option_map (point_in rule.now.order) result
         ≡ first_vector (points_of rule.now.order) (rule_of rule.now) ty }
     ensures within { IfSome result (λ p. IsWithin (2 ^ 8) p) }
@@ -55,8 +55,7 @@ fn first_vector(rule: &Rule, ty: usize) -> Option<Point>
 /// Returns true if the edge is as long as the first edge of its type or its mate.
 fn has_length_of_type(rule: &Rule, kind: usize, edge: usize) -> bool
     requires usable { IsUsable rule.now }
-    requires kind_in { kind < length (rule_of rule.now).kinds }
-    requires edge_in { edge < edge_count (rule_of rule.now) kind }
+    requires edge_in { IsEdgeOf rule.now kind edge }
     ensures { result ≡ has_length_of_type (points_of rule.now.order) (rule_of rule.now) kind edge }
 {
     let vector = edge_vector(rule, kind, edge);

@@ -5,6 +5,7 @@ ghost use Rattle.rule_model.specs.Views.{as_rule};
 ghost use Rattle.dissect_check.specs.declared.check_fault.CheckFault.TheVariants.{TooMany};
 ghost use Rattle.dissect_check.specs.Agrees.{fault_in};
 ghost use Rattle.dissect_check.specs.FirstFault.{type_limits, types_limits, kind_limits, kinds_limits, limits as limits_fault};
+ghost use Rattle.dissect_check.specs.Places.{ListsKind, ListsType};
 
 use crate::check_fault::CheckFault;
 use crate::fits::{
@@ -27,7 +28,7 @@ fn require(fits: bool, what: What) -> Result<(), CheckFault>
 
 /// No number of the type passes a limit.
 fn type_limits(rule: &Rule, ty: usize) -> Result<(), CheckFault>
-    requires ty_in { ty < length (as_rule rule.now).types }
+    requires ty_in { ListsType rule.now ty }
     requires few { ty < 32 }
     ensures { fault_in result ≡ type_limits rule.now.order (as_rule rule.now) ty }
 {
@@ -49,7 +50,7 @@ fn types_limits(rule: &Rule) -> Result<(), CheckFault>
 
 /// No number of the kind passes a limit.
 fn kind_limits(rule: &Rule, kind: usize) -> Result<(), CheckFault>
-    requires kind_in { kind < length (as_rule rule.now).kinds }
+    requires kind_in { ListsKind rule.now kind }
     requires few { kind < 16 }
     ensures { fault_in result ≡ kind_limits rule.now.order (as_rule rule.now) kind }
 {

@@ -6,6 +6,7 @@ ghost use Rattle.rule_model.specs.Views.{as_rule, rule_of};
 ghost use Rattle.dissect_check.specs.FirstFault.{loose_of_kind, loose_edges};
 ghost use Rattle.dissect_check.specs.Agrees.{Agrees};
 ghost use Rattle.dissect_check.specs.Views.{IsInflated, AreInflated};
+ghost use Rattle.dissect_check.specs.Places.{IsKindOf};
 
 use crate::check_fault::CheckFault;
 use crate::inflated::Inflated;
@@ -17,7 +18,7 @@ use std::alloc::Global;
 /// The inflated prototile of a kind, or its first loose child edge.
 fn loose_of_kind(alloc: Global, rule: &Rule, kind: usize) -> Result<Inflated, CheckFault>
     requires usable { IsUsable rule.now }
-    requires kind_in { kind < length (rule_of rule.now).kinds }
+    requires kind_in { IsKindOf rule.now kind }
     ensures fault { Agrees result (loose_of_kind rule.now.order (as_rule rule.now) kind) }
     ensures inflated { IfOk result (λ parent. IsInflated rule.now kind parent) }
 {

@@ -11,7 +11,7 @@ ghost use Rattle.rule_model.specs.declared.rule.Rule.{Rule};
 ghost use Rattle.rule_model.specs.Usable.{IsUsable};
 ghost use Rattle.rule_model.specs.Views.{rule_of};
 ghost use Rattle.dissect_check.specs.Few.{few_of};
-ghost use Rattle.dissect_check.specs.Views.{line_in, edge_in, as_lie, IsSmallLine, IsFit};
+ghost use Rattle.dissect_check.specs.Views.{line_in, edge_in, as_lie, AreEdges, IsSmallLine, IsFit};
 
 use crate::few::Few;
 use crate::lie::Lie;
@@ -84,9 +84,7 @@ fn wholes_along(order: Order, wholes: &[Line], edge: &Line) -> Few<u8>
 /// Where a child edge lies, among the edges of all children and the wholes.
 fn lie_among(rule: &Rule, edges: &[PlacedEdge], wholes: &[Line], s: &PlacedEdge) -> Lie
     requires usable { IsUsable rule.now }
-    requires edges_fit { All (IsFit rule.now) edges.now }
-    requires at_most_12 { length wholes.now ≤ 12 }
-    requires wholes_small { All (IsSmallLine rule.now.order) wholes.now }
+    requires edges { AreEdges rule.now edges.now wholes.now }
     requires s_fit { IsFit rule.now s.now }
     ensures { as_lie result ≡ lie_among (points_of rule.now.order) (rule_of rule.now)
         (map (edge_in rule.now.order) edges.now) (map (line_in rule.now.order) wholes.now)
@@ -119,9 +117,7 @@ pub(crate) fn all_lies(
     wholes: &[Line],
 ) -> Result<Vec<Lie>, NoMemory>
     requires usable { IsUsable rule.now }
-    requires edges_fit { All (IsFit rule.now) edges.now }
-    requires at_most_12 { length wholes.now ≤ 12 }
-    requires wholes_small { All (IsSmallLine rule.now.order) wholes.now }
+    requires edges { AreEdges rule.now edges.now wholes.now }
     ensures { IfOk result (λ v. let placed = map (edge_in rule.now.order) edges.now in
         map as_lie v.items ≡ map (lie_among (points_of rule.now.order) (rule_of rule.now) placed
         (map (line_in rule.now.order) wholes.now)) placed) }

@@ -10,6 +10,7 @@ ghost use Rattle.rule_model.specs.Usable.{IsUsable};
 ghost use Rattle.rule_model.specs.Views.{as_rule, rule_of};
 ghost use Rattle.dissect_check.specs.Agrees.{fault_in};
 ghost use Rattle.dissect_check.specs.FirstFault.{stars as stars_fault};
+ghost use Rattle.dissect_check.specs.Places.{IsKindOf};
 
 use crate::check_fault::CheckFault;
 use cyclo_points::order::Order;
@@ -23,7 +24,7 @@ use std::cmp::Ordering;
 /// How many vertices the prototile has: 3 or more.
 fn corner_count(rule: &Rule, kind: usize) -> usize
     requires usable { IsUsable rule.now }
-    requires kind_in { kind < length (rule_of rule.now).kinds }
+    requires kind_in { IsKindOf rule.now kind }
     ensures value { result ≡ length (vertices_of (rule_of rule.now) kind) }
     ensures at_least_3 { 3 ≤ result }
 {
@@ -33,7 +34,7 @@ fn corner_count(rule: &Rule, kind: usize) -> usize
 /// A vertex of the prototile, where the tests of the plane can take it.
 fn corner(rule: &Rule, kind: usize, i: usize) -> Point
     requires usable { IsUsable rule.now }
-    requires kind_in { kind < length (rule_of rule.now).kinds }
+    requires kind_in { IsKindOf rule.now kind }
     requires i_in { i < length (vertices_of (rule_of rule.now) kind) }
     ensures place { spot_of rule.now.order result
         ≡ corner (points_of rule.now.order) (vertices_of (rule_of rule.now) kind) i }
@@ -45,7 +46,7 @@ fn corner(rule: &Rule, kind: usize, i: usize) -> Point
 /// Returns triangle number i of the fan around vertex 0.
 fn fan_triangle(rule: &Rule, kind: usize, i: usize) -> [Point; 3]
     requires usable { IsUsable rule.now }
-    requires kind_in { kind < length (rule_of rule.now).kinds }
+    requires kind_in { IsKindOf rule.now kind }
     requires i_in { i + 2 < length (vertices_of (rule_of rule.now) kind) }
     ensures places { triangle_of rule.now.order result
         ≡ fan_triangle (points_of rule.now.order) (vertices_of (rule_of rule.now) kind) i }
@@ -69,7 +70,7 @@ fn turns_left(order: Order, t: &[Point; 3]) -> bool
 /// Returns true if each triangle of the fan turns strictly left.
 fn fan_turns_left(rule: &Rule, kind: usize) -> bool
     requires usable { IsUsable rule.now }
-    requires kind_in { kind < length (rule_of rule.now).kinds }
+    requires kind_in { IsKindOf rule.now kind }
     ensures { result
         ≡ fan_turns_left (points_of rule.now.order) (vertices_of (rule_of rule.now) kind) }
 {
@@ -84,7 +85,7 @@ fn fan_turns_left(rule: &Rule, kind: usize) -> bool
 /// Returns true if a line along an edge of one of them separates each two triangles of the fan.
 fn fan_is_apart(rule: &Rule, kind: usize) -> bool
     requires usable { IsUsable rule.now }
-    requires kind_in { kind < length (rule_of rule.now).kinds }
+    requires kind_in { IsKindOf rule.now kind }
     ensures { result
         ≡ fan_is_apart (points_of rule.now.order) (vertices_of (rule_of rule.now) kind) }
 {
@@ -102,7 +103,7 @@ fn fan_is_apart(rule: &Rule, kind: usize) -> bool
 /// Returns true if the first and the last edge leave vertex 0 in two directions.
 fn fan_is_open(rule: &Rule, kind: usize) -> bool
     requires usable { IsUsable rule.now }
-    requires kind_in { kind < length (rule_of rule.now).kinds }
+    requires kind_in { IsKindOf rule.now kind }
     ensures { result
         ≡ fan_is_open (points_of rule.now.order) (vertices_of (rule_of rule.now) kind) }
 {
@@ -116,7 +117,7 @@ fn fan_is_open(rule: &Rule, kind: usize) -> bool
 /// Returns true if the prototile is star-shaped from vertex 0.
 fn is_star(rule: &Rule, kind: usize) -> bool
     requires usable { IsUsable rule.now }
-    requires kind_in { kind < length (rule_of rule.now).kinds }
+    requires kind_in { IsKindOf rule.now kind }
     ensures { result ≡ is_star (points_of rule.now.order) (vertices_of (rule_of rule.now) kind) }
 {
     fan_turns_left(rule, kind) && fan_is_apart(rule, kind) && fan_is_open(rule, kind)

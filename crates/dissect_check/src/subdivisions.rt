@@ -5,6 +5,7 @@ ghost use Rattle.rule_model.specs.Usable.{IsUsable};
 ghost use Rattle.rule_model.specs.Views.{as_rule, rule_of};
 ghost use Rattle.dissect_check.specs.Agrees.{fault_in};
 ghost use Rattle.dissect_check.specs.FirstFault.{subdivisions as subdivisions_fault};
+ghost use Rattle.dissect_check.specs.Places.{IsTypeOf};
 
 use crate::check_fault::CheckFault;
 use rule_model::rule::Rule;
@@ -12,7 +13,7 @@ use rule_model::rule::Rule;
 /// Returns true if the mate's subdivision is the type's, reversed, each part replaced by its mate.
 fn is_mirrored(rule: &Rule, ty: usize) -> bool
     requires usable { IsUsable rule.now }
-    requires ty_in { ty < length (rule_of rule.now).types }
+    requires ty_in { IsTypeOf rule.now ty }
     ensures { result ≡ is_mirrored (rule_of rule.now) ty }
 {
     let mate = rule.mate(ty);

@@ -1,12 +1,11 @@
 //! The contact tables of a rule.
-ghost use Rattle.std.specs.Prelude.{◌≡◌, map, length, IfOk};
+ghost use Rattle.std.specs.Prelude.{◌≡◌, map, IfOk};
 ghost use Rattle.theory_substitution.specs.Rule.{EdgeType};
-ghost use Rattle.theory_addresses.specs.Search.{below};
 ghost use Rattle.theory_addresses.specs.Coherent.{IsCoherent};
-ghost use Rattle.theory_edge_to_edge.specs.Contacts.{tables_of_kind, tables_of};
+ghost use Rattle.theory_edge_to_edge.specs.Contacts.{tables_of};
 ghost use Rattle.cyclo_points.specs.Order.{points_of};
-ghost use Rattle.edge_tables.specs.Views.{as_kind_tables};
 ghost use Rattle.rule_model.specs.Views.{rule_of};
+ghost use Rattle.dissect_check.specs.Parts.{AreTables};
 
 use edge_tables::kind_rows::KindRows;
 use edge_tables::tables::Tables;
@@ -43,9 +42,7 @@ fn parts_of_types(alloc: Global, rule: &Rule) -> Result<Vec<Vec<u8>>, NoMemory>
 /// The contact tables of a rule, from those of its kinds.
 pub(crate) fn tables_of(alloc: Global, rule: &Rule, rows: Vec<KindRows>) -> Result<Tables, NoMemory>
     requires coherent { IsCoherent (tables_of (points_of rule.now.order) (rule_of rule.now)) }
-    requires kinds { map as_kind_tables rows.items
-        ≡ below (tables_of_kind (points_of rule.now.order) (rule_of rule.now))
-        (length (rule_of rule.now).kinds) }
+    requires kinds { AreTables rule.now rows.items }
     ensures { IfOk result (λ tables. tables
         ≡ tables_of (points_of rule.now.order) (rule_of rule.now)) }
 {

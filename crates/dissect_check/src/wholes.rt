@@ -8,6 +8,7 @@ ghost use Rattle.cyclo_points.specs.Point.{point_in, IsOf, IsWithin};
 ghost use Rattle.rule_model.specs.Usable.{IsUsable};
 ghost use Rattle.rule_model.specs.Views.{rule_of};
 ghost use Rattle.dissect_check.specs.Views.{line_in, IsSmallLine};
+ghost use Rattle.dissect_check.specs.Places.{IsKindOf, IsEdgeOf};
 
 use crate::line::Line;
 use cyclo_points::point::Point;
@@ -19,8 +20,7 @@ use tile_shape::no_memory::NoMemory;
 /// The number of the vertex at which an edge of a kind ends.
 pub(crate) fn next(rule: &Rule, kind: usize, edge: usize) -> usize
     requires usable { IsUsable rule.now }
-    requires kind_in { kind < length (rule_of rule.now).kinds }
-    requires edge_in { edge < edge_count (rule_of rule.now) kind }
+    requires edge_in { IsEdgeOf rule.now kind edge }
     ensures value { result ≡ next (rule_of rule.now) kind edge }
     ensures within { result < edge_count (rule_of rule.now) kind }
 {
@@ -34,7 +34,7 @@ pub(crate) fn next(rule: &Rule, kind: usize, edge: usize) -> usize
 /// A vertex of the inflated prototile of a kind: λ times the vertex of the prototile.
 fn inflated_vertex(rule: &Rule, kind: usize, i: usize) -> Point
     requires usable { IsUsable rule.now }
-    requires kind_in { kind < length (rule_of rule.now).kinds }
+    requires kind_in { IsKindOf rule.now kind }
     requires i_in { i < edge_count (rule_of rule.now) kind }
     ensures value { point_in rule.now.order result ≡ (points_of rule.now.order).ring.mul
         (vertex (points_of rule.now.order) (rule_of rule.now) kind i) (rule_of rule.now).factor }
@@ -47,8 +47,7 @@ fn inflated_vertex(rule: &Rule, kind: usize, i: usize) -> Point
 /// An edge of the inflated prototile of a kind.
 fn inflated_edge(rule: &Rule, kind: usize, edge: usize) -> Line
     requires usable { IsUsable rule.now }
-    requires kind_in { kind < length (rule_of rule.now).kinds }
-    requires edge_in { edge < edge_count (rule_of rule.now) kind }
+    requires edge_in { IsEdgeOf rule.now kind edge }
     ensures value { line_in rule.now.order result
         ≡ inflated_edge (points_of rule.now.order) (rule_of rule.now) kind edge }
     ensures small { IsSmallLine rule.now.order result }
@@ -62,7 +61,7 @@ fn inflated_edge(rule: &Rule, kind: usize, edge: usize) -> Line
 /// The edges of the inflated prototile of a kind.
 pub(crate) fn inflated_edges(alloc: Global, rule: &Rule, kind: usize) -> Result<Vec<Line>, NoMemory>
     requires usable { IsUsable rule.now }
-    requires kind_in { kind < length (rule_of rule.now).kinds }
+    requires kind_in { IsKindOf rule.now kind }
     ensures value { IfOk result (λ v. map (line_in rule.now.order) v.items
         ≡ inflated_edges (points_of rule.now.order) (rule_of rule.now) kind) }
     ensures small { IfOk result (λ v. All (IsSmallLine rule.now.order) v.items) }

@@ -23,7 +23,7 @@ use Rattle.half_glue.specs.Found.{no_tile, given_tile, IsBeside, StandsAmong, Ar
 use Rattle.half_glue.specs.Given.{IsGiven}
 use Rattle.half_glue.specs.Pairs.{halves_of, added_pairs}
 use Rattle.half_glue.specs.Sides.{IsOtherSide, IsSide, IsSideOf, AreSides}
-use Rattle.half_glue.proofs.Chosen.{get_or-front}
+use Rattle.half_glue.proofs.Elements.{get_or-front}
 use Rattle.half_glue.proofs.LookUp.{beside-glued}
 use Rattle.half_glue.proofs.OtherHalves.{side-of, only-of, kind-there}
 use Rattle.half_glue.proofs.Settling.{settled-inside, settled-joined}

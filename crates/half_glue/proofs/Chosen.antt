@@ -1,5 +1,5 @@
 -- Whole tiles by keys in order, each once.
-use Rattle.std.proofs.Common.{◌≡◌, inl, inr, ℕ, zero, suc, ◌+◌, ◌*◌, ◌<◌, ◌≤◌, ◌^◌, List, [], ◌∷◌, ◌++◌, All, length, get_or, Bool, true, false, not, ◌&&◌, cond, nat_eq, nat_abs, ℤ, pos, refl, sym, ap, ap₂, ◌∙◌, subst, arith, length-append}
+use Rattle.std.proofs.Common.{◌≡◌, inl, inr, ℕ, zero, suc, ◌+◌, ◌*◌, ◌<◌, ◌≤◌, ◌^◌, List, [], ◌∷◌, ◌++◌, All, length, get_or, Bool, true, false, not, ◌&&◌, cond, nat_eq, nat_abs, ℤ, pos, refl, sym, ap, ap₂, ◌∙◌, subst, arith}
 use Rattle.std.specs.List.{Contains}
 use Rattle.std.specs.List.Sorted.{IsPermutation, IsSorted}
 use Rattle.std.specs.Ordering.{int_cmp, is_lt}
@@ -10,7 +10,6 @@ use Rattle.std.proofs.lemmas.List.{append-nil, get_or_default}
 use Rattle.std.proofs.lemmas.Bool.{cases_lt}
 use Rattle.std.proofs.lemmas.List.Elements.{All-nil, All-push}
 use Rattle.std.proofs.lemmas.List.Sorted.{Contains-permutation, All-permutation}
-use Rattle.std.proofs.Math.Seq.{get_or-append_seam}
 use Rattle.tile_place.specs.Keys.{key_of, are_level, packed_pair}
 use Rattle.tile_place.specs.declared.order_key.OrderKey.{OrderKey}
 use Rattle.tile_place.proofs.KeyOrder.{comes-first, level-numbers}
@@ -20,18 +19,7 @@ use Rattle.half_glue.specs.InOrder.{first_numbers, ComesBeforeWhole, AreWholesIn
 use Rattle.theory_addresses.specs.Search.{chosen_below}
 use Rattle.half_glue.specs.Keys.{HasTileKey, first_keys, whole_order, no_key, is_new_key, whole_at}
 use Rattle.half_glue.proofs.Keyed.{IsKeyOf, from-keys, key-there}
-
--- ---- lists
-pub get_or-front : {A : Type 0} (xs ys : List A) (k : ℕ) (d : A) → k < length xs → get_or (xs ++ ys) k d ≡ get_or xs k d
-get_or-front [] ys k d l = absurd (omega (arith, l))
-get_or-front (z ∷ xs) ys zero d l = refl
-get_or-front (z ∷ xs) ys (suc k) d l = get_or-front xs ys k d (omega (arith, l))
-
-pub contains-left : {A : Type 0} (xs ys : List A) (x : A) → Contains xs x → Contains (xs ++ ys) x
-contains-left xs ys x c = (c.0, omega (arith, c.1, length-append xs ys), get_or-front xs ys c.0 x c.1 ∙ c.2)
-
-pub contains-last : {A : Type 0} (xs : List A) (x : A) → Contains (xs ++ x ∷ []) x
-contains-last xs x = (length xs, omega (arith, length-append xs (x ∷ [])), get_or-append_seam xs x [] x)
+use Rattle.half_glue.proofs.Elements.{contains-left, contains-last}
 
 -- the words of a key, by the numbers of its tile
 abbrev high_of : List ℤ → ℕ
@@ -125,10 +113,8 @@ module _ (made : List WholeTile) (fit : All (λ w. HasTileKey w.first) made) (ks
       )
       | inr k ↦ let here : n ≡ i = omega (arith, b, k) in (
         at n,
-        subst
-            (λ (ws : List WholeTile). Contains ws (at n)) (sym e) (contains-last (chosen n) (at n)),
-        ap
-            (λ j. first_numbers (at j)) here,
+        subst (λ (ws : List WholeTile). Contains ws (at n)) (sym e) (contains-last (chosen n) (at n)),
+        ap (λ j. first_numbers (at j)) here,
       )
     ];
     last = λ i s. let here : n ≡ i = omega (arith, s) in (chosen n, at n, e, ap (λ j. first_numbers (at j)) here);
@@ -197,8 +183,7 @@ arranged-same made fit ks p sorted blank = record { from_made = all.from_made; e
     each i d l =
         let k = key_of (get_or made i d).first.motion (get_or made i d).first.kind i in
         let plain : 0 + i ≡ i = omega arith in
-        let own : Contains (first_keys made) k = subst
-        (λ n. Contains (first_keys made) (key_of (get_or made i d).first.motion
+        let own : Contains (first_keys made) k = subst (λ n. Contains (first_keys made) (key_of (get_or made i d).first.motion
         (get_or made i d).first.kind n)) plain (key-there (λ (w : WholeTile). w.first) made 0 i d l) in
         let there = Contains-permutation (first_keys made) ks k p own in
         let found = all.each there.0 there.1 in

@@ -5,7 +5,7 @@ use Rattle.std.proofs.Math.Seq.{get_or-append_seam}
 use Rattle.rule_model.specs.Tiling.{Tiling}
 use Rattle.half_glue.specs.declared.glue_side.GlueSide.{GlueSide}
 use Rattle.half_glue.specs.Sides.{IsSideOf}
-use Rattle.half_glue.proofs.Chosen.{get_or-front}
+use Rattle.half_glue.proofs.Elements.{get_or-front}
 
 -- so it is with the first n kinds
 abbrev pub AreFirstSides : Tiling → ℕ → List (Option GlueSide) → Type 0

@@ -1,5 +1,6 @@
 mod Keyed
 mod Chosen
+mod Elements
 mod GlueTypes
 mod Growing
 mod OwnRule
@@ -9,7 +10,10 @@ mod Settling
 mod SettledTiles
 mod Alike
 mod LookUp
+mod FoundKeys
+mod HandedOn
 mod Wholes
+mod GluedBack
 mod Taking
 mod Searching
 mod Firsts
@@ -18,6 +22,7 @@ mod OtherHalves
 mod AmongTiles
 mod PickedPairs
 mod InnerPairs
+mod TakenTiles
 mod Merging
 mod PlaceAmong
 mod NextMerged

@@ -1,7 +1,6 @@
 -- A tile given that stands where the other half would is the other half.
-use Rattle.std.proofs.Common.{◌≡◌, inl, inr, ℕ, ◌<◌, [], List, ℤ, pos, All, length, get_or, Option, None, Some, IfSome, refl, sym, ap, ◌∙◌, subst, arith}
+use Rattle.std.proofs.Common.{◌≡◌, inl, inr, ℕ, ◌<◌, List, ℤ, pos, All, length, get_or, Option, None, Some, IfSome, sym, ap, ◌∙◌, subst, arith}
 use Rattle.std.specs.List.{Contains}
-use Rattle.std.proofs.lemmas.List.Sorted.{All-permutation}
 use Rattle.theory_addresses.specs.Address.{Address, depth, top_kind}
 use Rattle.theory_addresses.specs.Search.{IsAmong}
 use Rattle.theory_substitution.specs.Motion.{moved, followed}
@@ -33,7 +32,6 @@ use Rattle.tile_place.specs.Keys.{order_numbers, key_of, FitsKey}
 use Rattle.tile_place.specs.declared.order_key.OrderKey.{OrderKey}
 use Rattle.tile_place.specs.declared.placed_tile.PlacedTile.{PlacedTile}
 use Rattle.tile_place.proofs.EachOrder.{order-fits}
-use Rattle.tile_place.proofs.KeyOrder.{level-numbers}
 use Rattle.tile_place.proofs.Plane.{its_rule, fits_tables, has_edge}
 use Rattle.tile_shape.specs.Views.{address_of}
 use Rattle.theory_walks.specs.Frames.{FrameValue, whole, IsFrameOf}
@@ -43,24 +41,12 @@ use Rattle.half_glue.specs.declared.glue_side.OtherSide.{OtherSide}
 use Rattle.half_glue.specs.Checked.{HasGlueLaws}
 use Rattle.half_glue.specs.Found.{no_tile, given_tile, IsBeside, KeyStandsBeside, AreGlued}
 use Rattle.half_glue.specs.Given.{IsGiven}
-use Rattle.half_glue.specs.Keys.{HasTileKey, own_keys, AreKeysOf}
+use Rattle.half_glue.specs.Keys.{HasTileKey, AreKeysOf}
 use Rattle.half_glue.specs.Sides.{IsOtherSide, IsSide}
 use Rattle.half_glue.proofs.Alike.{quad_at}
 use Rattle.half_glue.proofs.Growing.{settled}
 use Rattle.half_glue.proofs.Halves.{given-whole, given-key, glue-edge-of, glued-of}
-use Rattle.half_glue.proofs.Keyed.{IsKeyOf, from-keys}
-
--- a key found is that of the tile of its number
-pub key-found : (tiles : List PlacedTile) (keys : List OrderKey) → AreKeysOf tiles keys → All HasTileKey tiles
-    → (m : program.Motion) (k n : ℕ) → FitsKey m k → Contains keys (key_of m k n)
-    → (n < length tiles) × (order_numbers m k ≡ order_numbers (given_tile tiles n).motion (given_tile tiles n).kind)
-key-found tiles keys are fit m k n fits c =
-    let own : All (IsKeyOf (λ (x : PlacedTile). x) tiles) keys = All-permutation
-    (IsKeyOf (λ (x : PlacedTile). x) tiles) (own_keys tiles) keys are.same
-    (from-keys (λ (x : PlacedTile). x) [] tiles 0 refl) in
-    let key = subst (IsKeyOf (λ (x : PlacedTile). x) tiles) c.2 (own c.0 (key_of m k n) c.1) in
-    let y = given_tile tiles n in
-    (key.below, level-numbers m y.motion k y.kind (key_of m k n) (key_of m k n) fits (fit n no_tile key.below) refl (key.is no_tile) refl refl)
+use Rattle.half_glue.proofs.FoundKeys.{key-found}
 
 module _ (m : Rule) (L : HasGlueLaws m) where
   abbrev t : Tiling

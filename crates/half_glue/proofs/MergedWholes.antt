@@ -13,7 +13,7 @@ use Rattle.half_glue.specs.Keys.{no_pair}
 use Rattle.half_glue.specs.Lifted.{whole_of, wholes_of}
 use Rattle.half_glue.specs.Merged.{pair_numbers, pair_of_number, ArePairsInOrder, AreMerged}
 use Rattle.half_glue.proofs.Merging.{total}
-use Rattle.half_glue.proofs.Wholes.{contains-map, contained}
+use Rattle.half_glue.proofs.Elements.{contains-map, contained}
 
 -- what is so of all of two lists is so of each list
 pub all-left : {A : Type 0} (P : A → Type 0) (xs ys : List A) → All P (xs ++ ys) → All P xs

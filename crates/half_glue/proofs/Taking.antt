@@ -17,9 +17,9 @@ use Rattle.half_glue.specs.Checked.{HasGlueLaws}
 use Rattle.half_glue.specs.Found.{no_tile, given_tile, IsHalfFound}
 use Rattle.half_glue.specs.Given.{IsGiven}
 use Rattle.half_glue.specs.Pairs.{added_pairs, added_tiles, ArePresent, second_of, loose_of, AreLoose, IsLoose, IsTaken, ArePairsOf}
-use Rattle.half_glue.proofs.Chosen.{get_or-front, contains-left}
+use Rattle.half_glue.proofs.Elements.{get_or-front, contains-left, of-all}
 use Rattle.half_glue.proofs.Settling.{given-on, glued-on}
-use Rattle.half_glue.proofs.Wholes.{of-all, glued-back}
+use Rattle.half_glue.proofs.GluedBack.{glued-back}
 
 -- the pairs that the tiles in front have brought, behind so many others
 pub record ArePaired (t : Tiling) (f : FrameValue) (tiles : List PlacedTile) (base i : ℕ)

@@ -1,7 +1,7 @@
 -- The whole tiles of pairs, arranged, are the whole tiles of the tiles given.
-use Rattle.std.proofs.Common.{◌≡◌, inl, inr, None, Some, Option, ℕ, ◌<◌, List, ◌++◌, All, length, map, get_or, sym, ap, ◌∙◌, subst, arith}
+use Rattle.std.proofs.Common.{◌≡◌, inl, inr, None, Some, Option, ℕ, ◌<◌, List, ◌++◌, All, map, get_or, sym, ap, ◌∙◌, subst, arith}
 use Rattle.std.specs.List.{Contains}
-use Rattle.std.proofs.lemmas.List.{get_or_default, get_or-map, length-map}
+use Rattle.std.proofs.lemmas.List.{get_or_default}
 use Rattle.theory_addresses.specs.Address as theory
 use Rattle.theory_substitution.specs.Points.{Points}
 use Rattle.cyclo_points.specs.Order.{points_of}
@@ -32,31 +32,9 @@ use Rattle.half_glue.specs.Lifted.{IsNoDeeper, lifted_to, second_to, whole_to, w
 use Rattle.half_glue.specs.Pairs.{loose_of, AreLoose, IsEither, IsLoose, IsTaken, ArePairsOf}
 use Rattle.half_glue.specs.WholeTiles.{IsWholeBy, IsWholeTile, IsOneOf, IsPartOf, AreWholeTilesOf}
 use Rattle.half_glue.proofs.Alike.{alike}
-use Rattle.half_glue.proofs.Chosen.{contains-left}
+use Rattle.half_glue.proofs.Elements.{contains-left, of-all, contains-map, contained}
 use Rattle.half_glue.proofs.Halves.{given-whole, given-key}
-
-pub of-all : {A : Type 0} (Q : A → Type 0) (xs : List A) (x : A) → All Q xs → Contains xs x → Q x
-of-all Q xs x all c = subst Q c.2 (all c.0 x c.1)
-
-pub contains-map : {A B : Type 0} (g : A → B) (xs : List A) (x : A) → Contains xs x → Contains (map g xs) (g x)
-contains-map g xs x c = (c.0, omega (arith, c.1, length-map xs g), get_or-map g xs c.0 x (g x) c.1 ∙ ap g c.2)
-
-pub contained : {A B : Type 0} (g : A → B) (xs : List A) (d : A) (y : B) → Contains (map g xs) y → (x : A) × Contains xs x × (g x ≡ y)
-contained g xs d y c =
-    let below : c.0 < length xs = omega (arith, c.1, length-map xs g) in
-    (get_or xs c.0 d, (c.0, below, get_or_default xs c.0 (get_or xs c.0 d) d below), sym (get_or-map g xs c.0 d y below) ∙ c.2)
-
--- the other half is glued to it
-pub glued-back : (t : Tiling) (f : FrameValue) (x y : PlacedTile) → AreGlued t f x y → AreGlued t f y x
-glued-back t f x y h = record {
-  edge = h.its_edge;
-  its_edge = h.edge;
-  glue_edge = h.its_glue_edge;
-  its_glue_edge = h.glue_edge;
-  across = h.back;
-  back = h.across;
-  other_kind = λ s. h.other_kind (sym s);
-}
+use Rattle.half_glue.proofs.GluedBack.{glued-back}
 
 module _ (m : Rule) (L : HasGlueLaws m) (f : FrameValue) (is : IsFrameOf (tiling_of m) f) where
   abbrev t : Tiling
@@ -137,11 +115,9 @@ module _ (m : Rule) (L : HasGlueLaws m) (f : FrameValue) (is : IsFrameOf (tiling
       → AreLoose t f a s → IsEither y a s → IsOneOf t (lifted_tile t f x) (lifted_to f a) (second_to f s)
   other-part x y a None own g h e = absurd (h.1 g.its_edge
       (subst (λ (z : PlacedTile). IsGlueEdge t.rule z.kind g.its_edge) (sym e) g.its_glue_edge.glue_edge))
-  other-part x y a (Some b) own g h (inl e) = inr
-      (lifted-placed b ∙ (one-other y x b own h.1 (glued-back t f x y g)
+  other-part x y a (Some b) own g h (inl e) = inr (lifted-placed b ∙ (one-other y x b own h.1 (glued-back t f x y g)
       (subst (λ z. AreGlued t f z b) e h.2)).0)
-  other-part x y a (Some b) own g h (inr e) = inl
-      (lifted-placed a ∙ (one-other y x a own h.0 (glued-back t f x y g)
+  other-part x y a (Some b) own g h (inr e) = inl (lifted-placed a ∙ (one-other y x a own h.0 (glued-back t f x y g)
       (subst (λ z. AreGlued t f z a) e (glued-back t f a b h.2))).0)
 
   -- ---- pairs
@@ -204,8 +180,7 @@ module _ (m : Rule) (L : HasGlueLaws m) (f : FrameValue) (is : IsFrameOf (tiling
     }
       where
         given-at : All (IsGiven t f) tiles
-        given-at i d l = of-all (IsGiven t f) all (get_or tiles i d) are.given
-            (contains-left tiles crossed (get_or tiles i d)
+        given-at i d l = of-all (IsGiven t f) all (get_or tiles i d) are.given (contains-left tiles crossed (get_or tiles i d)
             (i, l, get_or_default tiles i (get_or tiles i d) d l))
 
         joined : (x : PlacedTile) → IsGiven t f x → IsTaken t f tiles loose x → (w : WholeTile) × Contains wholes w × IsPartOf t f w x

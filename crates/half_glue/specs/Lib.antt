@@ -13,6 +13,8 @@ pub mod Inner
 pub mod Merged
 pub mod Lifted
 pub mod Glued
+pub mod Ends
+pub mod Numbered
 pub mod Arranged
 pub mod Outline
 pub mod Covering

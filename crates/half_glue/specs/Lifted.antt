@@ -3,8 +3,6 @@ use Rattle.std.specs.Prelude.{◌≤◌, List, All, length, map, Option, None, S
 use Rattle.theory_addresses.specs.Address as theory
 use Rattle.theory_frames.specs.Frame.{lifted_in}
 use Rattle.tile_place.specs.declared.placed_tile.PlacedTile.{PlacedTile}
-use Rattle.tile_shape.specs.declared.address.Address.{Address}
-use Rattle.tile_shape.specs.declared.step.Step.{Step}
 use Rattle.tile_shape.specs.Views.{address_of, address_as}
 use Rattle.theory_walks.specs.Frames.{FrameValue, whole}
 use Rattle.half_glue.specs.declared.pairs.Pair.{Pair}

@@ -1,5 +1,5 @@
 -- Two lists of pairs, merged into one.
-use Rattle.std.specs.Prelude.{◌≡◌, ◌⊎◌, ℕ, ◌<◌, ◌≤◌, ℤ, List, All, length, get_or, Result, Ok, Err}
+use Rattle.std.specs.Prelude.{◌≡◌, ◌⊎◌, ℕ, ◌<◌, ◌≤◌, ◌++◌, ℤ, List, All, length, get_or, Result, Ok, Err}
 use Rattle.std.specs.List.{Contains}
 use Rattle.std.specs.Ordering.{int_cmp}
 use Rattle.std.specs.Cmp.Lexicographic.{slice_cmp}
@@ -7,7 +7,9 @@ use Rattle.std.specs.declared.cmp.Ordering.TheVariants.{Less, Greater}
 use Rattle.tile_place.specs.Keys.{order_numbers}
 use Rattle.tile_place.specs.declared.placed_tile.PlacedTile.{PlacedTile}
 use Rattle.half_glue.specs.declared.pairs.Pair.{Pair}
+use Rattle.window_cover.specs.InOrder.{AreInOrder}
 use Rattle.half_glue.specs.Found.{given_tile}
+use Rattle.half_glue.specs.Inner.{AreRising}
 use Rattle.half_glue.specs.Keys.{no_pair}
 
 -- the numbers by which a pair is ordered: those of its first tile
@@ -35,6 +37,14 @@ pub record AreMerged (tiles : List PlacedTile) (inner outer pairs : List Pair) :
   pub each_inner : All (Contains pairs) inner
   pub each_outer : All (λ p. (q : Pair) × Contains pairs q × (pair_numbers tiles q ≡ pair_numbers tiles p))
       outer
+
+-- The first list is one of tiles of a window, which are in order, and it is rising. The second has numbers of
+-- tiles, and is in order.
+pub record CanBeMerged (tiles crossed : List PlacedTile) (inner outer : List Pair) : Type 0 where
+  pub in_order : AreInOrder tiles
+  pub rising : AreRising (length tiles) inner
+  pub numbered : All (λ (p : Pair). p.first < length (tiles ++ crossed)) outer
+  pub outer_in_order : ArePairsInOrder (tiles ++ crossed) outer
 
 -- This holds for the first `done` pairs of the first list and the first `next` pairs of the second. Each pair
 -- comes before all that are left of both.

@@ -15,6 +15,11 @@ use Rattle.half_glue.specs.WholeTiles.{HasNoGlueEdge}
 abbrev pub are_mates : {A : Type 0} → Rule A → ℕ → ℕ → ℕ → ℕ → Bool
 are_mates r k e l f = nat_eq (edge_type r l f) (mate r (edge_type r k e))
 
+-- the tiling has a kind k, of which e is a glue edge
+pub record HasGlue (t : Tiling) (k e : ℕ) : Type 0 where
+  pub exists : k < length t.rule.kinds
+  pub glue_edge : IsGlueEdge t.rule k e
+
 -- the motion brings the glue edge of this other kind onto the reverse of edge e of kind k
 pub record IsOtherSide (t : Tiling) (k e : ℕ) (o : OtherSide) : Type 0 where
   pub back_edge : ℕ

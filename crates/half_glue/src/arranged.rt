@@ -1,14 +1,13 @@
 //! Puts whole tiles in order, each exactly once.
-ghost use Rattle.std.specs.Prelude.{◌≡◌, ◌<◌, ◌^◌, ◌++◌, All, length, IfOk};
-ghost use Rattle.theory_walks.specs.Frames.{FrameValue};
+ghost use Rattle.std.specs.Prelude.{◌≡◌, ◌<◌, ◌++◌, All, length, IfOk};
 ghost use Rattle.half_glue.specs.Found.{given_tile};
 ghost use Rattle.half_glue.specs.InOrder.{AreWholesInOrder};
 ghost use Rattle.theory_addresses.specs.Search.{chosen_below};
-ghost use Rattle.half_glue.specs.Keys.{HasTileKey, first_keys, is_new_key, whole_at};
+ghost use Rattle.half_glue.specs.Keys.{is_new_key, whole_at};
+ghost use Rattle.half_glue.specs.Numbered.{AreFirstKeys, AreKeyed, NamePairs};
 ghost use Rattle.half_glue.specs.Arranged.{AreWholesArranged};
-ghost use Rattle.half_glue.specs.Lifted.{IsNoDeeper, lifted_to, whole_of, wholes_of};
+ghost use Rattle.half_glue.specs.Lifted.{CanBeWholes, IsNoDeeper, lifted_to, whole_of, wholes_of};
 ghost use Rattle.half_glue.specs.Pairs.{ArePresent};
-ghost use Rattle.tile_place.specs.declared.order_key.OrderKey as key;
 ghost use Rattle.half_glue.specs.declared.whole_tile.WholeTile as whole;
 
 use crate::pairs::{Pair, Pairs};
@@ -27,9 +26,7 @@ pub(crate) fn arranged(
     tiles: &[PlacedTile],
     made: &Pairs,
 ) -> Result<Vec<WholeTile>, NoMemory>
-    requires few { length made.now.pairs.items < 2 ^ 32 }
-    requires numbered { All (ArePresent (length (tiles.now ++ made.now.crossed.items))) made.now.pairs.items }
-    requires fit { All HasTileKey (tiles.now ++ made.now.crossed.items) }
+    requires keyed { AreKeyed tiles.now made.now }
     requires no_deeper { All (IsNoDeeper frame.now) (tiles.now ++ made.now.crossed.items) }
     ensures in_order { IfOk result (λ wholes. AreWholesInOrder wholes.items) }
     ensures same { IfOk result (λ wholes. AreWholesArranged
@@ -42,12 +39,8 @@ pub(crate) fn arranged(
 
 /// Returns the keys of the first halves of pairs, in the order of the pairs.
 fn keys(alloc: Global, tiles: &[PlacedTile], made: &Pairs) -> Result<Vec<OrderKey>, NoMemory>
-    requires few { length made.now.pairs.items < 2 ^ 32 }
-    requires numbered { All (ArePresent (length (tiles.now ++ made.now.crossed.items))) made.now.pairs.items }
-    requires fit { All HasTileKey (tiles.now ++ made.now.crossed.items) }
-    ensures { IfOk result (λ keys. (f : FrameValue)
-        → keys.items ≡ first_keys (wholes_of f (tiles.now ++ made.now.crossed.items)
-        made.now.pairs.items)) }
+    requires { AreKeyed tiles.now made.now }
+    ensures { IfOk result (λ keys. AreFirstKeys tiles.now made.now keys.items) }
 {
     let count = made.pairs.len();
     let mut keys = Vec::with_capacity(alloc, count)?;
@@ -66,9 +59,8 @@ fn picked(
     made: &Pairs,
     keys: &[OrderKey],
 ) -> Result<Vec<WholeTile>, NoMemory>
-    requires keyed { All (λ (k : key.OrderKey). k.number < length made.now.pairs.items) keys.now }
-    requires numbered { All (ArePresent (length (tiles.now ++ made.now.crossed.items))) made.now.pairs.items }
-    requires no_deeper { All (IsNoDeeper frame.now) (tiles.now ++ made.now.crossed.items) }
+    requires keyed { NamePairs made.now keys.now }
+    requires wholes { CanBeWholes frame.now (tiles.now ++ made.now.crossed.items) made.now.pairs.items }
     ensures { IfOk result (λ wholes. (blank : whole.WholeTile) → wholes.items
         ≡ chosen_below (is_new_key keys.now) (whole_at
         (wholes_of frame.now (tiles.now ++ made.now.crossed.items) made.now.pairs.items) blank keys.now)

@@ -1,17 +1,13 @@
 //! Finds the other half of a tile of a window.
-ghost use Rattle.std.specs.Prelude.{◌≡◌, ◌<◌, ◌≤◌, ◌^◌, ℕ, [], ◌∷◌, length, IsOk, IfOk, IfErr, IfSome};
+ghost use Rattle.std.specs.Prelude.{◌<◌, ◌≤◌, ◌^◌, length, IfOk, IfSome};
 ghost use Rattle.cyclo_points.specs.Order.{points_of};
 ghost use Rattle.cyclo_points.specs.Point.{IsWithin};
 ghost use Rattle.rule_model.specs.Tiling.{tiling_of};
-ghost use Rattle.theory_walks.specs.Ancestors.{full};
-ghost use Rattle.theory_walks.specs.Frames.{GrowsTo};
 ghost use Rattle.theory_windows.specs.Limits.{most_tiles};
-ghost use Rattle.window_cover.specs.InOrder as covered;
-ghost use Rattle.half_glue.specs.Causes.{HasGlueCause};
-ghost use Rattle.half_glue.specs.Depth.{IsTooShallow};
-ghost use Rattle.half_glue.specs.Found.{StandsAmong, IsJoined, given_tile};
+ghost use Rattle.window_cover.specs.InOrder.{AreInOrder};
+ghost use Rattle.half_glue.specs.Ends.{JoinsTo};
+ghost use Rattle.half_glue.specs.Found.{StandsAmong, IsHalfOf, given_tile};
 ghost use Rattle.half_glue.specs.Given.{AreToGlue};
-ghost use Rattle.half_glue.specs.Limits.{CanBeJoined};
 ghost use Rattle.half_glue.specs.Sides.{AreSides, IsOtherSide};
 
 use crate::glue_fault::GlueFault;
@@ -40,18 +36,11 @@ pub(crate) fn other_half<L: Ledger>(
     steps: &mut Steps<L>,
 ) -> Result<Found, GlueFault>
     requires to_glue { AreToGlue (tiling_of machine.now) frame.old tiles.now }
-    requires in_order { covered.AreInOrder tiles.now }
+    requires in_order { AreInOrder tiles.now }
     requires sides { AreSides (tiling_of machine.now) sides.now }
     requires below { number < length tiles.now }
-    ensures frame { GrowsTo (tiling_of machine.now) frame.old frame.new }
-    ensures joined { IfOk result (IsJoined (tiling_of machine.now) frame.old frame.new tiles.now
-        (given_tile tiles.now number)) }
-    ensures least { (n : ℕ) → length frame.old.digits ≤ n → n < length frame.new.digits
-        → IsTooShallow (tiling_of machine.now) frame.old (given_tile tiles.now number ∷ []) n }
-    ensures answered { CanBeJoined (tiling_of machine.now) (full (tiling_of machine.now) frame.old)
-        (given_tile tiles.now number) → IsOk result }
-    ensures cause { IfErr result (λ fault. HasGlueCause (tiling_of machine.now) frame.old frame.new
-        (given_tile tiles.now number ∷ []) fault) }
+    ensures ends { JoinsTo (tiling_of machine.now) frame.old frame.new (given_tile tiles.now number) result }
+    ensures joined { IfOk result (IsHalfOf (tiling_of machine.now) frame.old frame.new tiles.now number) }
 {
     glue_laws(machine);
     let kind = tiles.kind(number);
@@ -79,7 +68,7 @@ pub(crate) fn half_among(
     kind: u8,
 ) -> Option<u32>
     requires few { length tiles.now ≤ most_tiles }
-    requires in_order { covered.AreInOrder tiles.now }
+    requires in_order { AreInOrder tiles.now }
     requires other { IfSome side.now.other (IsOtherSide (tiling_of machine.now) kind side.now.edge) }
     requires turn_below { own.now.turn < (points_of machine.now.order).order }
     requires within { IsWithin (2 ^ 24) own.now.shift }

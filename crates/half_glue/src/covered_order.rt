@@ -1,14 +1,14 @@
 //! Puts pairs of tiles of a window in order, each exactly once.
-ghost use Rattle.std.specs.Prelude.{◌≡◌, ◌<◌, ◌^◌, ◌++◌, All, length, IfOk};
+ghost use Rattle.std.specs.Prelude.{◌≡◌, ◌<◌, ◌++◌, All, length, IfOk};
 ghost use Rattle.theory_addresses.specs.Search.{chosen_below};
 ghost use Rattle.theory_walks.specs.Frames.{FrameValue};
 ghost use Rattle.tile_place.specs.Keys.{key_of};
-ghost use Rattle.tile_place.specs.declared.order_key.OrderKey as key;
 ghost use Rattle.half_glue.specs.Arranged.{AreWholesArranged};
 ghost use Rattle.half_glue.specs.Found.{given_tile};
 ghost use Rattle.half_glue.specs.InOrder.{AreWholesInOrder};
-ghost use Rattle.half_glue.specs.Keys.{HasTileKey, first_keys, is_new_key, pair_at};
+ghost use Rattle.half_glue.specs.Keys.{HasTileKey, is_new_key, pair_at};
 ghost use Rattle.half_glue.specs.Lifted.{wholes_of};
+ghost use Rattle.half_glue.specs.Numbered.{AreFirstKeys, AreKeyed, NamePairs};
 ghost use Rattle.half_glue.specs.Pairs.{ArePresent};
 
 use crate::arranged::is_new;
@@ -24,9 +24,7 @@ pub(crate) fn ordered(
     tiles: &CoveredTiles,
     made: &Pairs,
 ) -> Result<Vec<Pair>, NoMemory>
-    requires few { length made.now.pairs.items < 2 ^ 32 }
-    requires numbered { All (ArePresent (length (tiles.now ++ made.now.crossed.items))) made.now.pairs.items }
-    requires fit { All HasTileKey (tiles.now ++ made.now.crossed.items) }
+    requires { AreKeyed tiles.now made.now }
     ensures numbered { IfOk result (λ pairs. All (ArePresent (length (tiles.now ++ made.now.crossed.items)))
         pairs.items) }
     ensures in_order { IfOk result (λ pairs. (f : FrameValue)
@@ -42,12 +40,8 @@ pub(crate) fn ordered(
 
 /// Returns the keys of the first halves of pairs, in the order of the pairs.
 fn keys(alloc: Global, tiles: &CoveredTiles, made: &Pairs) -> Result<Vec<OrderKey>, NoMemory>
-    requires few { length made.now.pairs.items < 2 ^ 32 }
-    requires numbered { All (ArePresent (length (tiles.now ++ made.now.crossed.items))) made.now.pairs.items }
-    requires fit { All HasTileKey (tiles.now ++ made.now.crossed.items) }
-    ensures { IfOk result (λ keys. (f : FrameValue)
-        → keys.items ≡ first_keys (wholes_of f (tiles.now ++ made.now.crossed.items)
-        made.now.pairs.items)) }
+    requires { AreKeyed tiles.now made.now }
+    ensures { IfOk result (λ keys. AreFirstKeys tiles.now made.now keys.items) }
 {
     let count = made.pairs.len();
     let mut keys = Vec::with_capacity(alloc, count)?;
@@ -78,7 +72,7 @@ fn key_of(tiles: &CoveredTiles, made: &Pairs, number: u32, own: u32) -> OrderKey
 
 /// Returns the pairs of those keys whose place and kind differ from those of the key before.
 fn picked(alloc: Global, made: &Pairs, keys: &[OrderKey]) -> Result<Vec<Pair>, NoMemory>
-    requires keyed { All (λ (k : key.OrderKey). k.number < length made.now.pairs.items) keys.now }
+    requires keyed { NamePairs made.now keys.now }
     ensures { IfOk result (λ picked. picked.items ≡ chosen_below (is_new_key keys.now)
         (pair_at made.now.pairs.items keys.now) (length keys.now)) }
 {

@@ -1,14 +1,10 @@
 //! Finds the whole tiles of the tiles of a window, by numbers.
-ghost use Rattle.std.specs.Prelude.{◌≡◌, ◌⊎◌, ◌<◌, ◌≤◌, ◌++◌, ℕ, length, Err, IsOk, IfOk, IfErr, OnOk};
+ghost use Rattle.std.specs.Prelude.{◌++◌, length, IfOk};
 ghost use Rattle.rule_model.specs.Tiling.{tiling_of};
-ghost use Rattle.theory_walks.specs.Frames.{GrowsTo};
-ghost use Rattle.window_cover.specs.InOrder as covered;
-ghost use Rattle.half_glue.specs.declared.glue_fault.GlueFault.TheVariants.{NoMemory};
-ghost use Rattle.half_glue.specs.Causes.{HasGlueCause};
-ghost use Rattle.half_glue.specs.Depth.{IsLeastForGlue, IsTooShallow};
+ghost use Rattle.window_cover.specs.InOrder.{AreInOrder};
+ghost use Rattle.half_glue.specs.Ends.{GluesTo};
 ghost use Rattle.half_glue.specs.Given.{AreToGlue};
 ghost use Rattle.half_glue.specs.Inner.{AreRising};
-ghost use Rattle.half_glue.specs.Limits.{CanBeGlued};
 ghost use Rattle.half_glue.specs.Pairs.{ArePairsOf};
 
 use crate::covered_half::other_half;
@@ -45,21 +41,12 @@ pub(crate) fn paired<L: Ledger>(
     steps: &mut Steps<L>,
 ) -> Result<CoveredPairs, GlueFault>
     requires to_glue { AreToGlue (tiling_of machine.now) frame.old tiles.now }
-    requires in_order { covered.AreInOrder tiles.now }
-    ensures frame { GrowsTo (tiling_of machine.now) frame.old frame.new }
+    requires in_order { AreInOrder tiles.now }
+    ensures ends { GluesTo (tiling_of machine.now) frame.old frame.new tiles.now result }
     ensures paired { IfOk result (λ made. ArePairsOf (tiling_of machine.now) frame.new tiles.now
         made.outer.crossed.items
         (made.inner.items ++ made.outer.pairs.items)) }
     ensures rising { IfOk result (λ made. AreRising (length tiles.now) made.inner.items) }
-    ensures least { OnOk result (IsLeastForGlue (tiling_of machine.now) frame.old tiles.now
-        (length frame.new.digits)) }
-    ensures not_beyond { (n : ℕ) → length frame.old.digits ≤ n → n < length frame.new.digits
-        → IsTooShallow (tiling_of machine.now) frame.old tiles.now n }
-    ensures within { OnOk result (CanBeGlued (tiling_of machine.now) frame.old tiles.now) }
-    ensures answered { CanBeGlued (tiling_of machine.now) frame.old tiles.now → (result ≡ Err NoMemory)
-        ⊎ IsOk result }
-    ensures cause { IfErr result (λ fault. HasGlueCause (tiling_of machine.now) frame.old frame.new
-        tiles.now fault) }
 {
     glue_laws(machine);
     let sides = glue_sides(alloc, machine)?;

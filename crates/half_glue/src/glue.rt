@@ -3,6 +3,7 @@ ghost use Rattle.std.specs.Prelude.{◌≡◌, ◌⊎◌, ◌<◌, ◌≤◌, �
 ghost use Rattle.rule_model.specs.Tiling.{tiling_of};
 ghost use Rattle.theory_walks.specs.Frames.{GrowsTo};
 ghost use Rattle.half_glue.specs.declared.glue_fault.GlueFault.TheVariants.{NoMemory};
+ghost use Rattle.half_glue.specs.Ends.{GluesTo};
 ghost use Rattle.half_glue.specs.Given.{AreToGlue};
 ghost use Rattle.half_glue.specs.WholeTiles.{AreWholeTilesOf};
 ghost use Rattle.half_glue.specs.InOrder.{AreWholesInOrder};
@@ -82,15 +83,9 @@ fn glued<L: Ledger>(
     requires parts { blank.parts ≡ L.parts }
     requires some { 0 < blank.parts }
     requires to_glue { AreToGlue (tiling_of machine.now) frame.old tiles.now }
-    ensures frame { GrowsTo (tiling_of machine.now) frame.old frame.new }
-    ensures glued { IfOk result (λ wholes. AreGluedAs (tiling_of machine.now) frame.old frame.new tiles.now
+    ensures ends { GluesTo (tiling_of machine.now) frame.old frame.new tiles.now result }
+    ensures glued { IfOk result (λ wholes. AreGluedAs (tiling_of machine.now) frame.new tiles.now
         wholes.items) }
-    ensures not_beyond { (n : ℕ) → length frame.old.digits ≤ n → n < length frame.new.digits
-        → IsTooShallow (tiling_of machine.now) frame.old tiles.now n }
-    ensures answered { CanBeGlued (tiling_of machine.now) frame.old tiles.now → (result ≡ Err NoMemory)
-        ⊎ IsOk result }
-    ensures cause { IfErr result (λ fault. HasGlueCause (tiling_of machine.now) frame.old frame.new
-        tiles.now fault) }
 {
     glue_laws(machine);
     let mut steps = Steps::<L>::new(blank);

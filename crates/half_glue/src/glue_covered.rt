@@ -2,8 +2,9 @@
 ghost use Rattle.std.specs.Prelude.{◌≡◌, ◌⊎◌, ◌<◌, ◌≤◌, ℕ, length, IsOk, Err, IfOk, IfErr, OnOk};
 ghost use Rattle.rule_model.specs.Tiling.{tiling_of};
 ghost use Rattle.theory_walks.specs.Frames.{GrowsTo};
-ghost use Rattle.window_cover.specs.InOrder as covered;
+ghost use Rattle.window_cover.specs.InOrder.{AreInOrder};
 ghost use Rattle.half_glue.specs.declared.glue_fault.GlueFault.TheVariants.{NoMemory};
+ghost use Rattle.half_glue.specs.Ends.{GluesTo};
 ghost use Rattle.half_glue.specs.Given.{AreToGlue};
 ghost use Rattle.half_glue.specs.WholeTiles.{AreWholeTilesOf};
 ghost use Rattle.half_glue.specs.InOrder.{AreWholesInOrder};
@@ -36,7 +37,7 @@ pub fn glue_covered(
     tiles: CoveredTiles,
 ) -> Result<GluedTiles, GlueFault>
     requires to_glue { AreToGlue (tiling_of machine.now) frame.old tiles }
-    requires in_order { covered.AreInOrder tiles }
+    requires in_order { AreInOrder tiles }
 
     ensures frame { GrowsTo (tiling_of machine.now) frame.old frame.new }
 
@@ -82,16 +83,10 @@ fn glued<L: Ledger>(
     requires parts { blank.parts ≡ L.parts }
     requires some { 0 < blank.parts }
     requires to_glue { AreToGlue (tiling_of machine.now) frame.old tiles.now }
-    requires in_order { covered.AreInOrder tiles.now }
-    ensures frame { GrowsTo (tiling_of machine.now) frame.old frame.new }
-    ensures glued { IfOk result (λ made. AreGluedBy (tiling_of machine.now) frame.old frame.new tiles.now
+    requires in_order { AreInOrder tiles.now }
+    ensures ends { GluesTo (tiling_of machine.now) frame.old frame.new tiles.now result }
+    ensures glued { IfOk result (λ made. AreGluedBy (tiling_of machine.now) frame.new tiles.now
         made.crossed.items made.pairs.items) }
-    ensures not_beyond { (n : ℕ) → length frame.old.digits ≤ n → n < length frame.new.digits
-        → IsTooShallow (tiling_of machine.now) frame.old tiles.now n }
-    ensures answered { CanBeGlued (tiling_of machine.now) frame.old tiles.now → (result ≡ Err NoMemory)
-        ⊎ IsOk result }
-    ensures cause { IfErr result (λ fault. HasGlueCause (tiling_of machine.now) frame.old frame.new
-        tiles.now fault) }
 {
     glue_laws(machine);
     let mut steps = Steps::<L>::new(blank);

@@ -1,8 +1,7 @@
 //! The glue edges of a rule's kinds.
 ghost use Rattle.std.specs.Prelude.{◌≡◌, ◌<◌, length, IfOk, IfSome};
-ghost use Rattle.rule_model.specs.Glue.{IsGlueEdge};
 ghost use Rattle.rule_model.specs.Tiling.{tiling_of};
-ghost use Rattle.half_glue.specs.Sides.{IsOtherSide, IsSideOf, AreSides, are_mates};
+ghost use Rattle.half_glue.specs.Sides.{HasGlue, IsOtherSide, IsSideOf, AreSides, are_mates};
 
 use crate::glue_laws::glue_laws;
 use cyclo_points::motion::Motion;
@@ -56,8 +55,7 @@ fn glue_side(machine: &Machine, kind: u8) -> Option<GlueSide>
 
 /// Returns the other half of a kind, across this edge.
 fn other_side(machine: &Machine, kind: u8, edge: u8) -> Option<OtherSide>
-    requires exists { kind < length (tiling_of machine.now).rule.kinds }
-    requires glue_edge { IsGlueEdge (tiling_of machine.now).rule kind edge }
+    requires { HasGlue (tiling_of machine.now) kind edge }
     ensures { IfSome result (IsOtherSide (tiling_of machine.now) kind edge) }
 {
     glue_laws(machine);
@@ -79,10 +77,8 @@ fn other_side(machine: &Machine, kind: u8, edge: u8) -> Option<OtherSide>
 
 /// Returns true if the types of two edges are mates.
 fn are_mates(machine: &Machine, kind: u8, edge: u8, other: u8, back: u8) -> bool
-    requires exists { kind < length (tiling_of machine.now).rule.kinds }
-    requires glue_edge { IsGlueEdge (tiling_of machine.now).rule kind edge }
-    requires other_exists { other < length (tiling_of machine.now).rule.kinds }
-    requires other_glue_edge { IsGlueEdge (tiling_of machine.now).rule other back }
+    requires own { HasGlue (tiling_of machine.now) kind edge }
+    requires other { HasGlue (tiling_of machine.now) other back }
     ensures { result ≡ are_mates (tiling_of machine.now).rule kind edge other back }
 {
     glue_laws(machine);

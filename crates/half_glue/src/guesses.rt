@@ -2,7 +2,7 @@
 ghost use Rattle.std.specs.Prelude.{◌≡◌, ◌≤◌, IfSome, IsTrue, length};
 ghost use Rattle.tile_place.specs.Keys.{order_numbers};
 ghost use Rattle.theory_windows.specs.Limits.{most_tiles};
-ghost use Rattle.window_cover.specs.InOrder as covered;
+ghost use Rattle.window_cover.specs.InOrder.{AreInOrder};
 ghost use Rattle.window_cover.specs.Numbered.{IsPlacedAt};
 
 use cyclo_points::motion::Motion;
@@ -59,7 +59,7 @@ impl Guesses {
         motion: &Motion,
         kind: u8,
     ) -> Option<usize>
-        requires in_order { covered.AreInOrder tiles.now }
+        requires in_order { AreInOrder tiles.now }
         ensures found { IfSome result (IsPlacedAt tiles.now motion.now kind) }
     {
         let shape = usize::from(shape);
@@ -81,7 +81,7 @@ pub(crate) fn shape_of(motion: &Motion, kind: u8) -> u8 {
 /// Returns the place of the tile with this motion and kind: the guess, if it is right; otherwise by search in
 /// the order.
 fn looked_up(tiles: &CoveredTiles, guess: usize, motion: &Motion, kind: u8) -> Option<usize>
-    requires in_order { covered.AreInOrder tiles.now }
+    requires in_order { AreInOrder tiles.now }
     ensures found { IfSome result (IsPlacedAt tiles.now motion.now kind) }
 {
     if is_there(tiles, guess, motion, kind) {

@@ -1,5 +1,5 @@
 //! Finds the other half of a tile.
-ghost use Rattle.std.specs.Prelude.{◌≡◌, ◌<◌, ◌≤◌, ◌^◌, ℕ, [], ◌∷◌, length, IsOk, IfOk, IfErr, IfSome, OnOk};
+ghost use Rattle.std.specs.Prelude.{◌≡◌, ◌<◌, ◌^◌, length, IfOk, IfSome, OnOk};
 ghost use Rattle.std.specs.List.Sorted.{IsSorted};
 ghost use Rattle.theory_addresses.specs.Address.{depth};
 ghost use Rattle.cyclo_points.specs.Order.{points_of};
@@ -11,11 +11,11 @@ ghost use Rattle.rule_model.specs.Tiling.{tiling_of, children};
 ghost use Rattle.tile_place.specs.Crossed.{IsOnlyAcross};
 ghost use Rattle.tile_shape.specs.Views.{address_of};
 ghost use Rattle.theory_walks.specs.Ancestors.{full};
-ghost use Rattle.theory_walks.specs.Frames.{whole, IsFrameOf, GrowsTo};
+ghost use Rattle.theory_walks.specs.Frames.{whole, IsFrameOf};
 ghost use Rattle.lazy_walk.specs.Standing.{Stands};
-ghost use Rattle.half_glue.specs.Causes.{HasGlueCause};
-ghost use Rattle.half_glue.specs.Depth.{IsGluedInside, IsTooShallow};
-ghost use Rattle.half_glue.specs.Found.{KeyStandsBeside, IsJoined, IsOtherHalf, given_tile};
+ghost use Rattle.half_glue.specs.Depth.{IsGluedInside};
+ghost use Rattle.half_glue.specs.Ends.{JoinsTo};
+ghost use Rattle.half_glue.specs.Found.{KeyStandsBeside, IsHalfOf, IsOtherHalf, given_tile};
 ghost use Rattle.half_glue.specs.Given.{IsGiven, AreGiven};
 ghost use Rattle.half_glue.specs.Keys.{whole_order, AreKeysOf};
 ghost use Rattle.half_glue.specs.Limits.{CanBeJoined};
@@ -63,15 +63,8 @@ pub(crate) fn other_half<L: Ledger>(
     requires sides { AreSides (tiling_of machine.now) sides.now }
     requires keys { AreKeysOf tiles.now keys.now }
     requires below { number < length tiles.now }
-    ensures frame { GrowsTo (tiling_of machine.now) frame.old frame.new }
-    ensures joined { IfOk result (IsJoined (tiling_of machine.now) frame.old frame.new tiles.now
-        (given_tile tiles.now number)) }
-    ensures least { (n : ℕ) → length frame.old.digits ≤ n → n < length frame.new.digits
-        → IsTooShallow (tiling_of machine.now) frame.old (given_tile tiles.now number ∷ []) n }
-    ensures answered { CanBeJoined (tiling_of machine.now) (full (tiling_of machine.now) frame.old)
-        (given_tile tiles.now number) → IsOk result }
-    ensures cause { IfErr result (λ fault. HasGlueCause (tiling_of machine.now) frame.old frame.new
-        (given_tile tiles.now number ∷ []) fault) }
+    ensures ends { JoinsTo (tiling_of machine.now) frame.old frame.new (given_tile tiles.now number) result }
+    ensures joined { IfOk result (IsHalfOf (tiling_of machine.now) frame.old frame.new tiles.now number) }
 {
     glue_laws(machine);
     let tile = &tiles[number];
@@ -119,18 +112,12 @@ pub(crate) fn crossed_half<L: Ledger>(
     requires frame { IsFrameOf (tiling_of machine.now) frame.old }
     requires given { IsGiven (tiling_of machine.now) frame.old tile.now }
     requires glue_edge { IsOnlyGlueEdge (tiling_of machine.now).rule tile.now.kind edge }
-    ensures frame { GrowsTo (tiling_of machine.now) frame.old frame.new }
+    ensures ends { JoinsTo (tiling_of machine.now) frame.old frame.new tile.now result }
     ensures crossed { IfOk result (IsOtherHalf (tiling_of machine.now) frame.new tile.now) }
     ensures inside { OnOk result (IsGluedInside (tiling_of machine.now) frame.old (length frame.new.digits)
         tile.now) }
     ensures can_be_joined { OnOk result (CanBeJoined (tiling_of machine.now)
         (full (tiling_of machine.now) frame.old) tile.now) }
-    ensures least { (n : ℕ) → length frame.old.digits ≤ n → n < length frame.new.digits
-        → IsTooShallow (tiling_of machine.now) frame.old (tile.now ∷ []) n }
-    ensures answered { CanBeJoined (tiling_of machine.now) (full (tiling_of machine.now) frame.old) tile.now
-        → IsOk result }
-    ensures cause { IfErr result (λ fault. HasGlueCause (tiling_of machine.now) frame.old frame.new
-        (tile.now ∷ []) fault) }
 {
     glue_laws(machine);
     let mut across = tile.addr.copy();

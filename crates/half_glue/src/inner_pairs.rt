@@ -1,13 +1,10 @@
 //! Finds the whole tiles whose tiles are all in a window.
-ghost use Rattle.std.specs.Prelude.{◌≡◌, ◌⊎◌, ℕ, ◌<◌, ◌≤◌, All, false, get_or, length, IfOk, IfSome, IsTrue};
+ghost use Rattle.std.specs.Prelude.{◌≡◌, ◌⊎◌, ℕ, ◌<◌, false, get_or, length, IfOk, IfSome, IsTrue};
 ghost use Rattle.theory_walks.specs.Frames.{FrameValue, IsFrameOf};
 ghost use Rattle.rule_model.specs.Tiling.{tiling_of};
-ghost use Rattle.theory_windows.specs.Limits.{most_tiles};
-ghost use Rattle.window_cover.specs.InOrder as covered;
 ghost use Rattle.half_glue.specs.Given.{AreGiven};
-ghost use Rattle.half_glue.specs.Inner.{IsTilePlaced, IsOfPair, IsInnerPair, AreInner, AreRising};
+ghost use Rattle.half_glue.specs.Inner.{AreSought, IsOfPair, IsInnerPair, AreInner, AreRising};
 ghost use Rattle.half_glue.specs.Pairs.{ArePresent};
-ghost use Rattle.half_glue.specs.Sides.{AreSides};
 
 use crate::covered_half::half_among;
 use crate::glue_laws::glue_laws;
@@ -29,10 +26,7 @@ pub(crate) fn inner_pairs(
     guesses: &mut Guesses,
     taken: &mut [bool],
 ) -> Result<Vec<Pair>, NoMemory>
-    requires few { length tiles.now ≤ most_tiles }
-    requires placed { All (IsTilePlaced (tiling_of machine.now)) tiles.now }
-    requires in_order { covered.AreInOrder tiles.now }
-    requires sides { AreSides (tiling_of machine.now) sides.now }
+    requires sought { AreSought (tiling_of machine.now) sides.now tiles.now }
     requires as_many { length taken.old ≡ length tiles.now }
     requires none_taken { (k : ℕ) → ¬ IsTrue (get_or taken.old k false) }
     ensures as_many { length taken.new ≡ length tiles.now }
@@ -59,10 +53,7 @@ fn inner_pair(
     guesses: &mut Guesses,
     number: usize,
 ) -> Option<Pair>
-    requires few { length tiles.now ≤ most_tiles }
-    requires placed { All (IsTilePlaced (tiling_of machine.now)) tiles.now }
-    requires in_order { covered.AreInOrder tiles.now }
-    requires sides { AreSides (tiling_of machine.now) sides.now }
+    requires sought { AreSought (tiling_of machine.now) sides.now tiles.now }
     requires below { number < length tiles.now }
     ensures first { IfSome result (λ pair. pair.first ≡ number) }
     ensures present { IfSome result (ArePresent (length tiles.now)) }

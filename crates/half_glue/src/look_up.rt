@@ -1,11 +1,11 @@
 //! Looks up tiles by their places.
-ghost use Rattle.std.specs.Prelude.{◌≡◌, ◌<◌, ◌≤◌, ◌^◌, ℕ, All, length, None, IfOk, IfSome};
+ghost use Rattle.std.specs.Prelude.{◌≡◌, ◌<◌, ◌^◌, ℕ, None, IfOk, IfSome};
 ghost use Rattle.std.specs.List.{Contains};
 ghost use Rattle.std.specs.List.Sorted.{IsPermutation, IsSorted};
 ghost use Rattle.cyclo_points.specs.Point.{IsWithin};
 ghost use Rattle.tile_place.specs.Keys.{key_of};
-ghost use Rattle.half_glue.specs.Keys.{HasTileKey, own_keys, whole_order};
-ghost use Rattle.theory_windows.specs.Limits.{most_tiles};
+ghost use Rattle.half_glue.specs.Keys.{own_keys, whole_order};
+ghost use Rattle.half_glue.specs.Numbered.{HaveKeys};
 
 use cyclo_points::motion::Motion;
 use std::alloc::Global;
@@ -15,8 +15,7 @@ use tile_shape::no_memory::NoMemory;
 
 /// Returns the keys of tiles, sorted.
 pub(crate) fn sorted_keys(alloc: Global, tiles: &[PlacedTile]) -> Result<Vec<OrderKey>, NoMemory>
-    requires few { length tiles.now ≤ most_tiles }
-    requires fit { All HasTileKey tiles.now }
+    requires { HaveKeys tiles.now }
     ensures same { IfOk result (λ keys. IsPermutation (own_keys tiles.now) keys.items) }
     ensures sorted { IfOk result (λ keys. IsSorted whole_order keys.items) }
 {
@@ -27,8 +26,7 @@ pub(crate) fn sorted_keys(alloc: Global, tiles: &[PlacedTile]) -> Result<Vec<Ord
 
 /// Returns the keys of tiles, in the order of the tiles.
 fn keys(alloc: Global, tiles: &[PlacedTile]) -> Result<Vec<OrderKey>, NoMemory>
-    requires few { length tiles.now ≤ most_tiles }
-    requires fit { All HasTileKey tiles.now }
+    requires { HaveKeys tiles.now }
     ensures { IfOk result (λ keys. keys.items ≡ own_keys tiles.now) }
 {
     let count = tiles.len();

@@ -1,11 +1,10 @@
 //! Puts the whole tiles of a window in order.
-ghost use Rattle.std.specs.Prelude.{◌≡◌, ◌+◌, ◌<◌, ◌≤◌, ◌++◌, All, length, IfOk};
+ghost use Rattle.std.specs.Prelude.{◌≡◌, ◌+◌, ◌<◌, ◌≤◌, ◌++◌, length, IfOk};
 ghost use Rattle.tile_place.specs.Keys.{order_numbers};
-ghost use Rattle.window_cover.specs.InOrder as covered;
-ghost use Rattle.half_glue.specs.declared.pairs.Pair as pair;
+ghost use Rattle.window_cover.specs.InOrder.{AreInOrder};
 ghost use Rattle.half_glue.specs.Found.{given_tile};
 ghost use Rattle.half_glue.specs.Inner.{AreRising};
-ghost use Rattle.half_glue.specs.Merged.{AreMerged, ArePairsInOrder, IsMerging, IsPlaceAmong};
+ghost use Rattle.half_glue.specs.Merged.{AreMerged, CanBeMerged, IsMerging, IsPlaceAmong};
 
 use crate::pairs::Pair;
 use cyclo_points::motion::Motion;
@@ -24,10 +23,7 @@ pub(crate) fn merged(
     inner: &[Pair],
     outer: &[Pair],
 ) -> Result<Vec<Pair>, NoMemory>
-    requires in_order { covered.AreInOrder tiles.now }
-    requires rising { AreRising (length tiles.now) inner.now }
-    requires numbered { All (λ (p : pair.Pair). p.first < length (tiles.now ++ crossed.now)) outer.now }
-    requires outer_in_order { ArePairsInOrder (tiles.now ++ crossed.now) outer.now }
+    requires { CanBeMerged tiles.now crossed.now inner.now outer.now }
     ensures { IfOk result (λ pairs. AreMerged (tiles.now ++ crossed.now) inner.now outer.now pairs.items) }
 {
     let count = inner.len();
@@ -52,10 +48,7 @@ fn put_next(
     done: usize,
     next: usize,
 ) -> Result<usize, NoMemory>
-    requires in_order { covered.AreInOrder tiles.now }
-    requires rising { AreRising (length tiles.now) inner.now }
-    requires numbered { All (λ (p : pair.Pair). p.first < length (tiles.now ++ crossed.now)) outer.now }
-    requires outer_in_order { ArePairsInOrder (tiles.now ++ crossed.now) outer.now }
+    requires lists { CanBeMerged tiles.now crossed.now inner.now outer.now }
     requires merging { IsMerging (tiles.now ++ crossed.now) inner.now outer.now done next pairs.old.items }
     requires one_more { next < length outer.now }
     ensures { IfOk result (λ after. IsMerging (tiles.now ++ crossed.now) inner.now outer.now after
@@ -102,7 +95,7 @@ fn place_among(
     motion: &Motion,
     kind: u8,
 ) -> Result<usize, usize>
-    requires in_order { covered.AreInOrder tiles.now }
+    requires in_order { AreInOrder tiles.now }
     requires rising { AreRising (length tiles.now) pairs.now }
     requires within { from ≤ length pairs.now }
     ensures { IsPlaceAmong tiles.now pairs.now from (order_numbers motion.now kind) result }

@@ -1,8 +1,7 @@
 //! Pairs of halves.
-ghost use Rattle.std.specs.Prelude.{◌≡◌, ◌<◌, ◌≤◌, ◌++◌, nat_lt, length, OnOk};
-ghost use Rattle.half_glue.specs.Found.{IsNumberOfGiven};
-ghost use Rattle.half_glue.specs.Pairs.{halves_of, added_pairs, added_tiles};
-ghost use Rattle.theory_windows.specs.Limits.{most_tiles};
+ghost use Rattle.std.specs.Prelude.{◌≡◌, nat_lt, OnOk};
+ghost use Rattle.half_glue.specs.Numbered.{CanBeAdded, IsAdded};
+ghost use Rattle.half_glue.specs.Pairs.{halves_of};
 
 use crate::half::Found;
 use tile_place::placed_tile::PlacedTile;
@@ -33,13 +32,8 @@ pub(crate) fn put(
     number: usize,
     found: Found,
 ) -> Result<(), NoMemory>
-    requires few { length tiles.now ≤ most_tiles }
-    requires below { number < length tiles.now }
-    requires few_crossed { length made.old.crossed.items ≤ number }
-    requires numbered { IsNumberOfGiven tiles.now found }
-    ensures pairs { OnOk result (made.new.pairs.items ≡ made.old.pairs.items
-        ++ added_pairs tiles.now number (length made.old.crossed.items) found) }
-    ensures crossed { OnOk result (made.new.crossed.items ≡ made.old.crossed.items ++ added_tiles found) }
+    requires { CanBeAdded tiles.now made.old number found }
+    ensures { OnOk result (IsAdded tiles.now number found made.old made.new) }
 {
     let own = number as u32;
     match found {
@@ -72,13 +66,8 @@ pub(crate) fn put_covered(
     number: usize,
     found: Found,
 ) -> Result<(), NoMemory>
-    requires few { length tiles.now ≤ most_tiles }
-    requires below { number < length tiles.now }
-    requires few_crossed { length made.old.crossed.items ≤ number }
-    requires numbered { IsNumberOfGiven tiles.now found }
-    ensures pairs { OnOk result (made.new.pairs.items ≡ made.old.pairs.items
-        ++ added_pairs tiles.now number (length made.old.crossed.items) found) }
-    ensures crossed { OnOk result (made.new.crossed.items ≡ made.old.crossed.items ++ added_tiles found) }
+    requires { CanBeAdded tiles.now made.old number found }
+    ensures { OnOk result (IsAdded tiles.now number found made.old made.new) }
 {
     let own = number as u32;
     let kind = tiles.kind(number);

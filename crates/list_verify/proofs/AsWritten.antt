@@ -1,19 +1,18 @@
 -- The text that is written of the tiles of a window is a right listing of it.
-use Rattle.std.proofs.Common.{◌≡◌, ◌↔◌, inl, inr, ℕ, zero, suc, ◌<◌, ◌≤◌, ◌^◌, max, Bool, true, false, cond, List, [], ◌∷◌, map, length, nat_le, Result, Ok, Err, refl, sym, ap, ap₂, ◌∙◌, subst, arith}
+use Rattle.std.proofs.Common.{◌≡◌, inl, inr, ℕ, suc, ◌<◌, ◌≤◌, ◌^◌, max, Bool, true, false, cond, List, [], ◌∷◌, map, length, nat_le, Result, Ok, Err, refl, sym, ap, ap₂, ◌∙◌, subst, arith}
 use Rattle.std.specs.List.{AllByRecursion}
-use Rattle.theory_addresses.specs.Address.{Address, depth, Fits}
+use Rattle.theory_addresses.specs.Address.{Address, depth}
 use Rattle.theory_addresses.specs.Search.{IsAmong}
-use Rattle.theory_addresses.proofs.Lists.{AllByRecursion-among, AllByRecursion-from, IsAmong-map}
+use Rattle.theory_addresses.proofs.Lists.{AllByRecursion-among, IsAmong-map}
 use Rattle.cyclo_points.specs.declared.order.Order.{Order}
 use Rattle.cyclo_points.specs.declared.order.Order.TheVariants.{Four, Six, Eight, Ten}
-use Rattle.cyclo_points.specs.declared.point.Point.{Point}
 use Rattle.cyclo_points.specs.Order.{points_of, is_refused}
-use Rattle.cyclo_points.specs.Point.{point_in, IsOf, IsWithin}
+use Rattle.cyclo_points.specs.Point.{point_in, IsOf}
 use Rattle.cyclo_points.proofs.Refusal.{within-some_beyond, some_beyond-refused}
 use Rattle.theory_dissection.specs.Accepted.{AcceptedRule}
 use Rattle.theory_edge_to_edge.specs.Contacts.{tables_of}
 use Rattle.theory_addresses.specs.Tables.{child_kinds}
-use Rattle.theory_frames.specs.Frame.{at_level, lifted_in, IsTileOf}
+use Rattle.theory_frames.specs.Frame.{at_level, IsTileOf}
 use Rattle.theory_walks.specs.Ancestors.{full}
 use Rattle.theory_walks.specs.Frames.{FrameValue, whole, IsFrameOf, GrowsTo}
 use Rattle.lazy_walk.specs.Standing.{Stands}
@@ -34,7 +33,6 @@ use Rattle.theory_substitution.specs.Points.{Points}
 use Rattle.tile_place.specs.declared.placed_tile.PlacedTile.{PlacedTile}
 use Rattle.tile_place.specs.Searched.{placed_in}
 use Rattle.tile_place.proofs.Plane.{IsSettled, its_rule}
-use Rattle.tile_shape.specs.Accepted.{IsAcceptedAddress}
 use Rattle.tile_shape.specs.Usable.{AreUsable}
 use Rattle.tile_shape.specs.Views.{address_of}
 use Rattle.theory_windows.specs.FramePatch.{frame_patch, tile_of_ancestor}

@@ -59,7 +59,8 @@ use Rattle.list_verify.specs.declared.list_fault.ListFault.{ListFault}
 use Rattle.list_verify.specs.declared.list_fault.ListFault.TheVariants.{TooLong, BadLine, Address as BadAddress, BadKind, NotOfFrame, Double, Missing, WrongPlace, Stray, DepthLimit, CoordLimit, NoMemory}
 use Rattle.list_verify.proofs.Chains.{get_or-at}
 use Rattle.window_cover.proofs.FrameNames.{lifted-self}
-use Rattle.list_verify.proofs.Lines.{one-address, its_names, deep-full, line-of, line-deep, deepest-is, listing-on, listed-among, number-among, tile-is, one-tile}
+use Rattle.list_verify.proofs.Lines.{its_names, deep-full, line-of, line-deep, deepest-is, listing-on, listed-among, number-among, tile-is, one-tile}
+use Rattle.list_verify.proofs.LineNumbers.{one-address}
 use Rattle.list_verify.proofs.Marks.{set-length, marked-more}
 
 module _ (m : Rule) (settled : IsSettled m) (fits : StillFits (children (tiling_of m)))

@@ -50,7 +50,8 @@ use Rattle.list_verify.specs.Walked.{IsStoppedBy}
 use Rattle.list_verify.specs.declared.list_fault.ListFault.TheVariants.{DepthLimit}
 use Rattle.list_verify.proofs.Came.{HasCome}
 use Rattle.window_cover.proofs.FrameNames.{grown, lifted-self}
-use Rattle.list_verify.proofs.Lines.{at-number, its_names, deep-full, line-of, listing-on, number-among, tile-is, line-tile}
+use Rattle.list_verify.proofs.Lines.{its_names, deep-full, line-of, listing-on, number-among, tile-is, line-tile}
+use Rattle.list_verify.proofs.LineNumbers.{at-number}
 
 module _ (m : Rule) (settled : IsSettled m) (fits : StillFits (children (tiling_of m)))
     (L : HasListLaws (points_of m.order)) (f : FrameValue) (w : Window) (fit : IsWindow w)

@@ -37,7 +37,8 @@ use Rattle.list_verify.specs.Listing.{tile_listed, tiles_listed, AreOfOrder, Nam
 use Rattle.list_verify.specs.ListLaws.{HasListLaws}
 use Rattle.list_verify.specs.Walked.{IsFirstUnmarked, Tells}
 use Rattle.list_verify.proofs.Chains.{get_or-at}
-use Rattle.list_verify.proofs.Lines.{at-number, its_names, listing-on, tile-is, line-tile, one-tile}
+use Rattle.list_verify.proofs.Lines.{its_names, listing-on, tile-is, line-tile, one-tile}
+use Rattle.list_verify.proofs.LineNumbers.{at-number}
 
 module _ (m : Rule) (settled : IsSettled m) (fits : StillFits (children (tiling_of m)))
     (L : HasListLaws (points_of m.order)) (f : FrameValue) (w : Window) (fit : IsWindow w)

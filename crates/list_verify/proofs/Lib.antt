@@ -1,6 +1,7 @@
 pub mod Chains
 pub mod FirstLifted
 pub mod Lines
+pub mod LineNumbers
 pub mod Marks
 pub mod OneVerdict
 pub mod Came

@@ -1,7 +1,5 @@
 -- Lines of the frame that are lifted to its depth, as a listing of the theory.
-use Rattle.std.proofs.Common.{◌≡◌, inl, inr, ℕ, zero, suc, ◌<◌, ◌≤◌, max, List, [], ◌∷◌, ◌++◌, map, length, drop, get_or, slice_get, Some, refl, sym, ap, ◌∙◌, subst, arith}
-use Rattle.std.proofs.lemmas.Option.{slice_get_within}
-use Rattle.std.proofs.lemmas.List.{append_cancel_right}
+use Rattle.std.proofs.Common.{◌≡◌, inl, inr, ℕ, zero, suc, ◌<◌, ◌≤◌, max, List, [], ◌∷◌, map, length, get_or, slice_get, Some, refl, sym, ap, ◌∙◌, subst, arith}
 use Rattle.theory_addresses.specs.Address.{Address, depth}
 use Rattle.theory_addresses.specs.Search.{IsAmong}
 use Rattle.theory_addresses.specs.Tables.{child_kinds}
@@ -33,41 +31,10 @@ use Rattle.theory_windows.proofs.Places.{distinct-places}
 use Rattle.window_cover.specs.Windows.{TileOf, box_of, IsWindow}
 use Rattle.window_cover.proofs.FrameNames.{lifted-self}
 use Rattle.list_verify.specs.FoundLines.{entries_of, AreLinesIn, no_line, tile_of_line}
-use Rattle.list_verify.specs.LineIndex.{NoneAgain}
 use Rattle.list_verify.specs.Listing.{tile_listed, tiles_listed}
 use Rattle.list_verify.specs.ListLaws.{HasListLaws}
 use Rattle.list_verify.proofs.Chains.{get_or-at}
-
--- ---- addresses of one depth
--- that have one name are one
-pub one-address : (f a b : Address) (n : ℕ) → depth a ≡ n → depth b ≡ n → lifted_in f a ≡ lifted_in f b → a ≡ b
-one-address f a b n da db e = λ i. record { kind = (e i).kind; digits = digits i }
-  where
-    digits : a.digits ≡ b.digits
-    digits = append_cancel_right a.digits b.digits (drop n f.digits)
-        (ap (λ k. a.digits ++ drop k f.digits) (sym da) ∙ ap (λ (x : Address). x.digits) e ∙ ap (λ k. b.digits ++ drop k f.digits) db)
-
--- ---- which of two lines is first
-first_or : (i j : ℕ) (P : Type 0) → (i < j → P) → (j < i → P) → (i ≡ j → P) → P
-first_or zero zero P f g h = h refl
-first_or zero (suc j) P f g h = f (omega arith)
-first_or (suc i) zero P f g h = g (omega arith)
-first_or (suc i) (suc j) P f g h = first_or i j P (λ l. f (omega (arith, l))) (λ l. g (omega (arith, l))) (λ e. h (ap suc e))
-
--- lines apart have one number an address
-pub one-number : (lines : List program.Entry) → NoneAgain lines (length lines)
-    → (i j : ℕ) (d e : program.Entry) → slice_get lines i ≡ Some d → slice_get lines j ≡ Some e
-    → address_of d.address ≡ address_of e.address → i ≡ j
-one-number lines apart i j d e at there same = first_or i j (i ≡ j)
-    (λ l. absurd (apart j e (slice_get_within lines j e there) there i l (d, at, same)))
-    (λ l. absurd (apart i d (slice_get_within lines i d at) at j l (e, there, sym same)))
-    (λ h. h)
-
--- what is in a list stands at a number
-pub at-number : (lines : List program.Entry) (i : ℕ) → i < length lines → slice_get lines i ≡ Some (get_or lines i no_line)
-at-number [] i l = absurd (omega arith)
-at-number (x ∷ xs) zero l = refl
-at-number (x ∷ xs) (suc i) l = at-number xs i (omega arith)
+use Rattle.list_verify.proofs.LineNumbers.{one-address, one-number, at-number}
 
 module _ (m : Rule) (settled : IsSettled m) (fits : StillFits (children (tiling_of m)))
     (L : HasListLaws (points_of m.order)) (f : FrameValue) (w : Window) (fit : IsWindow w)

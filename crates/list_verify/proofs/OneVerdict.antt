@@ -1,5 +1,5 @@
 -- One thing is said of a listing: it stands in one of six ways, and in no two of them.
-use Rattle.std.proofs.Common.{◌≡◌, ◌⊎◌, inl, inr, ℕ, ◌+◌, ◌-◌, ◌<◌, List, length, Result, Ok, Err, None, refl, sym, ap, ◌∙◌, subst, arith}
+use Rattle.std.proofs.Common.{◌≡◌, ◌⊎◌, inl, inr, ℕ, ◌+◌, ◌-◌, ◌<◌, List, length, Ok, Err, None, refl, sym, ap, ◌∙◌, subst, arith}
 use Rattle.std.proofs.lemmas.Bool.{cases_lt}
 use Rattle.theory_addresses.specs.Address.{Address, depth, Fits}
 use Rattle.theory_addresses.specs.Search.{IsAmong}

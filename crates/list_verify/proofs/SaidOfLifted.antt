@@ -23,7 +23,7 @@ use Rattle.theory_walks.proofs.InFull.{names, deep, level-grown}
 use Rattle.theory_walks.proofs.Lifting.{lifted-twice, longer}
 use Rattle.theory_walks.proofs.Walks.{StillFits, GrowsTo-is}
 use Rattle.listing_text.specs.declared.entry.Entry as program
-use Rattle.listing_text.specs.Listing.{Entry, listing_in}
+use Rattle.listing_text.specs.Listing.{Entry}
 use Rattle.listing_text.specs.Views.{entry_of}
 use Rattle.theory_listings.specs.Lines.{IsLineAt, IsFirstLine}
 use Rattle.theory_listings.specs.FrameListing.{deepest_listed, AreOfFrame, IsRightListing, AreAllListed, IsNotOfFrame, HasEarlier, IsDouble}

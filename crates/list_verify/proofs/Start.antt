@@ -35,7 +35,8 @@ use Rattle.list_verify.specs.ListLaws.{HasListLaws}
 use Rattle.list_verify.specs.Walked.{first_refused_at, IsStoppedBy}
 use Rattle.list_verify.specs.declared.list_fault.ListFault.TheVariants.{CoordLimit}
 use Rattle.list_verify.proofs.Came.{HasCome}
-use Rattle.list_verify.proofs.Lines.{one-address, its_names, deep-full, listing-on}
+use Rattle.list_verify.proofs.Lines.{its_names, deep-full, listing-on}
+use Rattle.list_verify.proofs.LineNumbers.{one-address}
 
 module _ (m : Rule) (settled : IsSettled m) (fits : StillFits (children (tiling_of m)))
     (L : HasListLaws (points_of m.order)) (f : FrameValue) (w : Window) (fit : IsWindow w)

@@ -1,5 +1,5 @@
 -- What is written of the first tiles, before the rest of a text.
-use Rattle.std.proofs.Common.{◌≡◌, ℕ, zero, suc, ◌+◌, ◌<◌, ◌≤◌, Bool, true, false, ◌&&◌, List, [], ◌∷◌, ◌++◌, map, length, get_or, slice_get, take, drop, Some, nat_eq, refl, sym, ap, ap₂, ◌∙◌, subst, append_assoc, append-nil, take-append-drop, take-suc, take_all, add-one, arith}
+use Rattle.std.proofs.Common.{◌≡◌, ℕ, ◌+◌, ◌<◌, Bool, true, false, ◌&&◌, List, [], ◌∷◌, ◌++◌, length, slice_get, take, drop, Some, nat_eq, refl, sym, ap, ap₂, ◌∙◌, subst, append_assoc, append-nil, take-append-drop, take-suc, take_all, add-one, arith}
 use Rattle.std.proofs.lemmas.Bool.{eqb-true}
 use Rattle.std.specs.Cmp.Lexicographic.{pointwise}
 use Rattle.std.specs.List.{AllByRecursion}

@@ -8,6 +8,10 @@ use Rattle.list_verify.specs.declared.line_index.Buckets.{Buckets}
 use Rattle.list_verify.specs.declared.line_index.LineIndex.{LineIndex}
 use Rattle.tile_shape.specs.Views.{address_of}
 
+-- it is below the prime
+abbrev pub IsMultiplier : ℕ → Type 0
+IsMultiplier n = n < 2305843009213693951
+
 -- digits as one number below the prime 2^61 - 1: each step multiplies what came before, and adds a digit
 abbrev pub digest_from : ℕ → ℕ → List Step → ℕ
 digest_from multiplier digest [] = digest
@@ -33,7 +37,7 @@ last_in places place (suc n) =
 pub record IsIndexOf (buckets : Buckets) (lines : List Entry) (n : ℕ)
     (last before : List (Option ℕ)) : Type 0 where
   pub some : 0 < buckets.count
-  pub multiplier : buckets.multiplier < 2305843009213693951
+  pub multiplier : IsMultiplier buckets.multiplier
   pub count : length last ≡ buckets.count
   pub many : length before ≡ n
   pub within : n ≤ length lines

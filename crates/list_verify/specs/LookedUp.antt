@@ -1,5 +1,5 @@
 -- Looking for a tile among the lines.
-use Rattle.std.specs.Prelude.{◌≡◌, ◌⊎◌, ℕ, ◌+◌, ◌^◌, true, false, List, [], ◌∷◌, ◌++◌, slice_get, slice_set, Some}
+use Rattle.std.specs.Prelude.{◌≡◌, ◌⊎◌, ℕ, ◌+◌, ◌<◌, ◌^◌, true, false, List, [], ◌∷◌, ◌++◌, length, slice_get, slice_set, Some}
 use Rattle.cyclo_points.specs.declared.motion.Motion.{Motion}
 use Rattle.cyclo_points.specs.declared.order.Order.{Order}
 use Rattle.cyclo_points.specs.Motion.{motion_in}
@@ -13,6 +13,16 @@ use Rattle.list_verify.specs.declared.found_lines.FoundLines.{FoundLines}
 use Rattle.list_verify.specs.declared.list_fault.ListFault.{ListFault}
 use Rattle.list_verify.specs.declared.list_fault.ListFault.TheVariants.{Missing, WrongPlace, CoordLimit}
 use Rattle.list_verify.specs.LineIndex.{HasAddress}
+
+-- each line has its mark, and the lines are not too many
+pub record HasRoom (lines : List Entry) (found : FoundLines) : Type 0 where
+  pub few : length lines < 2 ^ 32
+  pub count : length found.marks.items ≡ length lines
+
+-- each line still has its mark, and the edges that are crossed are the same
+pub record KeepsRoom (lines : List Entry) (old new : FoundLines) : Type 0 where
+  pub count : length new.marks.items ≡ length lines
+  pub crossed : new.crossed ≡ old.crossed
 
 -- line number i was found before, and nothing changes
 pub record IsKnown (old new : FoundLines) (i : ℕ) : Type 0 where

@@ -1,5 +1,5 @@
 -- A walk through the lines of a listing: how it begins, what holds on its way, and how it ends.
-use Rattle.std.specs.Prelude.{◌≡◌, ◌⊎◌, ℕ, ◌*◌, ◌<◌, ◌≤◌, ◌^◌, true, List, [], length, slice_get, None, Some}
+use Rattle.std.specs.Prelude.{◌≡◌, ◌⊎◌, ℕ, ◌*◌, ◌<◌, ◌≤◌, ◌^◌, true, List, [], length, slice_get, None, Some, Result, IfErr, OnOk}
 use Rattle.rule_model.specs.Tiling.{Tiling, tiling_of}
 use Rattle.theory_walks.specs.Frames.{FrameValue, GrowsTo}
 use Rattle.listing_text.specs.Listing.{Entry}
@@ -53,6 +53,12 @@ pub record Stops (walk : Walk) (f g : FrameValue) (fault : ListFault) : Type 0 w
   pub grows : GrowsTo (tiling_in walk) f g
   pub not_beyond : (n : ℕ) → IsLeastForWindow (tiling_in walk) f walk.window.now n → length g.digits ≤ n
   pub cause : OrNoRoom (IsStoppedBy (tiling_in walk) f g walk.window.now (entries_in walk)) fault
+
+-- it goes on, or it stops with a fault
+pub record GoesOnOrStops {A : Type 0} (walk : Walk) (f g : FrameValue) (old new : FoundLines)
+    (result : Result A ListFault) : Type 0 where
+  pub goes_on : OnOk result (WalkGoesOn walk f g old new)
+  pub fault : IfErr result (Stops walk f g)
 
 -- it has come to its end, and the lines that it has found are marked
 pub record HasEnded (walk : Walk) (f g : FrameValue) (found : FoundLines) : Type 0 where

@@ -42,42 +42,25 @@ pub(crate) fn as_written(
     let Ok(mut own) = frame.copy() else {
         return None;
     };
-    let count = written_lines(alloc, machine, &mut own, window, listing)?;
-    *frame = own;
-    Some(count)
-}
-
-/// Returns true if a listing has at least eight bytes for each unit square of a quarter of the window, as
-/// lists of the built-in rules have. For a shorter one it is not worth making the list of the window.
-fn can_be_long_enough(window: &Window, listing: &[u8]) -> bool {
-    listing.len() >= 8 * usize::from(window.w) * usize::from(window.h)
-}
-
-/// Like [`as_written`], on a frame that may grow in any case.
-fn written_lines(
-    alloc: Global,
-    machine: &Machine,
-    frame: &mut Frame,
-    window: &Window,
-    listing: &[u8],
-) -> Option<u32>
-    requires frame { IsFrameOf (tiling_of machine.now) frame.old }
-    requires window_fits { IsWindow window.now }
-    ensures listed { IfSome result (IsListedAs (tiling_of machine.now) frame.old frame.new window.now
-        listing.now) }
-{
     written_law();
     let checked = machine.checked();
     grown_fits_law();
     let _usable = checked.uses().kinds();
-    let Ok(tiles) = covered_tiles(alloc, machine, frame, window) else {
+    let Ok(tiles) = covered_tiles(alloc, machine, &mut own, window) else {
         return None;
     };
     let count = tiles.len();
     if count == 0 || !is_text_of(&tiles, listing) {
         return None;
     }
+    *frame = own;
     Some(count as u32)
+}
+
+/// Returns true if a listing has at least eight bytes for each unit square of a quarter of the window, as
+/// lists of the built-in rules have. For a shorter one it is not worth making the list of the window.
+fn can_be_long_enough(window: &Window, listing: &[u8]) -> bool {
+    listing.len() >= 8 * usize::from(window.w) * usize::from(window.h)
 }
 
 /// Returns true if a text is the text of these tiles.

@@ -8,6 +8,7 @@ ghost use Rattle.tile_shape.specs.Views.{address_of};
 ghost use Rattle.listing_text.specs.Limits.{most_lines};
 ghost use Rattle.window_cover.specs.Windows.{IsWindow};
 ghost use Rattle.list_verify.specs.FoundLines.{entries_of};
+ghost use Rattle.list_verify.specs.LineIndex.{IsMultiplier};
 ghost use Rattle.list_verify.specs.Verdict.{IsVerdictOn, IsWholeVerdict};
 
 use crate::laws::one_verdict_law;
@@ -73,7 +74,7 @@ pub(crate) fn verdict_of(
     requires window_fits { IsWindow window.now }
     requires fit { All (λ line. Fits (children (tiling_of machine.now)) (address_of line.address)) lines.old }
     requires few { length lines.old < 2 ^ 31 }
-    requires below { multiplier < 2305843009213693951 }
+    requires below { IsMultiplier multiplier }
     ensures { IsVerdictOn (tiling_of machine.now) frame.old frame.new window.now (Ok (entries_of lines.old))
         result }
 {

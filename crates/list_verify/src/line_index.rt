@@ -5,7 +5,7 @@ ghost use Rattle.list_verify.specs.declared.list_fault.ListFault.TheVariants.{Do
 ghost use Rattle.list_verify.specs.LineIndex as index;
 ghost use Rattle.listing_text.specs.declared.entry.Entry.{Entry};
 ghost use Rattle.list_verify.specs.Faults.{OrNoRoom};
-ghost use Rattle.list_verify.specs.LineIndex.{Indexes, HasAddress, NoneAgain, IsAgain, buckets_of, last_in};
+ghost use Rattle.list_verify.specs.LineIndex.{IsMultiplier, Indexes, HasAddress, NoneAgain, IsAgain, buckets_of, last_in};
 
 use crate::list_fault::ListFault;
 use crate::same_address::is_same_address;
@@ -44,7 +44,7 @@ impl LineIndex {
         lines: &[Entry],
     ) -> Result<LineIndex, ListFault>
         requires few { length lines.now < 2 ^ 32 }
-        requires below { multiplier < 2305843009213693951 }
+        requires below { IsMultiplier multiplier }
         ensures index { IfOk result (λ own. Indexes own lines.now (length lines.now)) }
         ensures distinct { OnOk result (NoneAgain lines.now (length lines.now)) }
         ensures double { IfErr result (OrNoRoom (λ fault. (i : ℕ) × (fault ≡ Double (i + 1))
@@ -102,7 +102,7 @@ impl LineIndex {
 /// in one bucket before the whole listing is written. Few multipliers are bad, such as 0, 1 and those with a
 /// small order.
 pub(crate) fn multiplier_of(listing: &[u8]) -> u64
-    ensures below { result < 2305843009213693951 }
+    ensures below { IsMultiplier result }
 {
     let mut hasher = DefaultHasher::new();
     hasher.write(listing);
@@ -111,7 +111,7 @@ pub(crate) fn multiplier_of(listing: &[u8]) -> u64
 
 /// Returns the multiplier for entries, from a hash of all their addresses.
 pub(crate) fn multiplier_of_entries(entries: &[Entry]) -> u64
-    ensures below { result < 2305843009213693951 }
+    ensures below { IsMultiplier result }
 {
     let mut hasher = DefaultHasher::new();
     for entry in entries {
@@ -134,7 +134,7 @@ fn reduced(number: u128) -> u64
 /// Returns the bucket of an address.
 fn bucket_of(address: &Address, buckets: Buckets) -> usize
     requires some { 0 < buckets.count }
-    requires multiplier { buckets.multiplier < 2305843009213693951 }
+    requires multiplier { IsMultiplier buckets.multiplier }
     ensures bucket { result ≡ index.bucket_of buckets (address_of address.now) }
     ensures below { result < buckets.count }
 {

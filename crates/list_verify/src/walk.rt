@@ -5,7 +5,7 @@ ghost use Rattle.theory_windows.specs.Outlines.{MeetsBox};
 ghost use Rattle.cyclo_points.specs.Order.{points_of};
 ghost use Rattle.window_cover.specs.Windows.{box_of};
 ghost use Rattle.list_verify.specs.FoundLines.{IsCrossedOver, AreCrossedOver, edges_of_line, edge_of_line};
-ghost use Rattle.list_verify.specs.Walk.{tiling_in, IsOnFrame, HasNone, IsUnderWay, WalkGoesOn, Stops, HasEnded, IsRightListing, IsNotRight};
+ghost use Rattle.list_verify.specs.Walk.{tiling_in, IsOnFrame, HasNone, IsUnderWay, GoesOnOrStops, Stops, HasEnded, IsRightListing, IsNotRight};
 ghost use Rattle.list_verify.specs.Walked.{first_refused_at};
 
 use crate::crossed_edges::Side;
@@ -97,10 +97,9 @@ impl<'a> Walk<'a> {
     fn find_centre(&self, frame: &mut Frame, found: &mut FoundLines) -> Result<u32, ListFault>
         requires on_frame { IsOnFrame self.now frame.old }
         requires none { HasNone (length self.now.lines.now) found.old }
-        ensures goes_on { OnOk result (WalkGoesOn self.now frame.old frame.new found.old found.new) }
+        ensures step { GoesOnOrStops self.now frame.old frame.new found.old found.new result }
         ensures centre_found { OnOk result (first_refused_at (tiling_in self.now) frame.old
             self.now.window.now ≡ None) }
-        ensures fault { IfErr result (Stops self.now frame.old frame.new) }
     {
         walk_laws(self.machine);
         match frame.contain(self.machine, &self.window.centre) {
@@ -121,11 +120,10 @@ impl<'a> Walk<'a> {
     ) -> Result<(), ListFault>
         requires under_way { IsUnderWay self.now frame.old found.old }
         requires line_found { IsAmong line found.old.lines.items }
-        ensures goes_on { OnOk result (WalkGoesOn self.now frame.old frame.new found.old found.new) }
+        ensures step { GoesOnOrStops self.now frame.old frame.new found.old found.new result }
         ensures crossed { OnOk result (AreCrossedOver (tiling_in self.now) frame.old self.now.window.now
             self.now.lines.now found.new.lines.items line
             (edges_of_line (tiling_in self.now) self.now.lines.now line)) }
-        ensures fault { IfErr result (Stops self.now frame.old frame.new) }
     {
         walk_laws(self.machine);
         let order = self.machine.checked().order();
@@ -164,10 +162,9 @@ impl<'a> Walk<'a> {
         requires edge_meets { MeetsBox (points_of self.now.machine.now.order).real
             (box_of (tiling_in self.now) self.now.window.now)
             (edge_of_line (tiling_in self.now) frame.old self.now.lines.now side.line side.edge) }
-        ensures goes_on { OnOk result (WalkGoesOn self.now frame.old frame.new found.old found.new) }
+        ensures step { GoesOnOrStops self.now frame.old frame.new found.old found.new result }
         ensures crossed { OnOk result (IsCrossedOver (tiling_in self.now) frame.old self.now.window.now
             self.now.lines.now found.new.lines.items side.line side.edge) }
-        ensures fault { IfErr result (Stops self.now frame.old frame.new) }
     {
         walk_laws(self.machine);
         put_line(&self.lines[side.line as usize], tile);

@@ -1,8 +1,8 @@
 //! The edges of a tile that meet the window.
-ghost use Rattle.std.specs.Prelude.{◌≡◌, ◌↔◌, ◌<◌, ◌≤◌, ◌^◌, ◌+◌, ◌*◌, suc, All, true, false, cond, nat_lt, length, slice_get, Some, IsTrue};
+ghost use Rattle.std.specs.Prelude.{◌≡◌, ◌↔◌, ◌<◌, ◌≤◌, ◌+◌, ◌*◌, suc, true, false, cond, nat_lt, length, slice_get, Some, IsTrue};
 ghost use Rattle.theory_windows.specs.Outlines.{MeetsBox};
 ghost use Rattle.cyclo_points.specs.Order.{points_of};
-ghost use Rattle.cyclo_points.specs.Point.{IsWithin};
+ghost use Rattle.window_descent.specs.Reach.{AreInReach, IsInReach};
 ghost use Rattle.window_cover.specs.Windows.{window_box};
 ghost use Rattle.list_verify.specs.FoundLines.{line_between};
 
@@ -16,8 +16,8 @@ use plane_geom::window::Window;
 fn edge_meets(order: Order, window: &Window, corners: &[Point], edge: usize) -> bool
     requires exists { edge < length corners.now }
     requires few { length corners.now ≤ 12 }
-    requires within { All (IsWithin (2 ^ 25)) corners.now }
-    requires centre_within { IsWithin (2 ^ 25) window.now.centre }
+    requires within { AreInReach corners.now }
+    requires centre_within { IsInReach window.now }
     ensures { IsTrue result ↔ MeetsBox (points_of order).real (window_box order window.now)
         (line_between order corners.now edge) }
 {
@@ -38,8 +38,8 @@ pub(crate) fn is_left(
 ) -> bool
     requires exists { side.edge < length corners.now }
     requires few { length corners.now ≤ 12 }
-    requires within { All (IsWithin (2 ^ 25)) corners.now }
-    requires centre_within { IsWithin (2 ^ 25) window.now.centre }
+    requires within { AreInReach corners.now }
+    requires centre_within { IsInReach window.now }
     requires marked { side.line * 12 + side.edge < length crossed.now.marks.items }
     ensures meets { IsTrue result → MeetsBox (points_of order).real (window_box order window.now)
         (line_between order corners.now side.edge) }

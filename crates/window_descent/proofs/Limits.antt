@@ -1,12 +1,12 @@
 -- Witnesses of sums, and the sides of a window as limits for witnesses.
 use Rattle.std.specs.Ordering.{is_gt}
-use Rattle.std.proofs.Common.{arith, ℕ, ℤ, ◌≡◌, ◌^◌, ◌<◌, pos, neg_ℤ, ◌+ℤ◌, ◌<ℤ◌, ◌≤ℤ◌, Bool, true, false, refl, sym, ◌∙◌, ap, subst}
+use Rattle.std.proofs.Common.{arith, ℕ, ℤ, ◌≡◌, ◌^◌, ◌<◌, pos, neg_ℤ, ◌+ℤ◌, Bool, true, false, refl, sym, ◌∙◌, ap, subst}
 use Rattle.std.proofs.lemmas.Int.{ints}
 use Rattle.theory_ring.specs.Ring.{difference}
 use Rattle.theory_substitution.specs.Points.{Points, PointLaws}
 use Rattle.cyclo_points.specs.declared.order.Order.{Order}
 use Rattle.cyclo_points.specs.declared.order.Order.TheVariants.{Four, Six, Eight, Ten}
-use Rattle.cyclo_points.specs.Order.{NumberOf, points_of}
+use Rattle.cyclo_points.specs.Order.{points_of}
 use Rattle.cyclo_points.specs.declared.point.Point.{Point}
 use Rattle.cyclo_points.specs.Point.{point_in, Within}
 use Rattle.cyclo_points.specs.Real.{RealOf, number}

@@ -1,13 +1,12 @@
 -- How a part stands to a window by its bounds, and bounds of a list of points.
-use Rattle.std.proofs.Common.{◌≡◌, ℕ, ◌<◌, ◌≤◌, ◌+◌, zero, suc, Bool, true, false, List, [], ◌∷◌, ◌++◌, take, length, map, get_or, refl, sym, ap, ◌∙◌, subst, inl, inr, ◌⊎◌, arith}
-use Rattle.std.proofs.Common.{ℤ, ◌<ℤ◌, ◌≤ℤ◌, pos, ◌^◌}
+use Rattle.std.proofs.Common.{◌≡◌, ℕ, ◌<◌, ◌+◌, false, List, [], ◌∷◌, take, length, map, get_or, refl, sym, ap, ◌∙◌, subst, inl, inr, ◌⊎◌, arith}
+use Rattle.std.proofs.Common.{◌≤ℤ◌}
 use Rattle.std.proofs.lemmas.Int.{ints}
 use Rattle.std.proofs.lemmas.List.{take_more}
 use Rattle.std.specs.List.{AllByRecursion}
 use Rattle.theory_addresses.proofs.Lists.{AllByRecursion-append, AllByRecursion-each, AllByRecursion-map}
 use Rattle.theory_ring.specs.Ring.{power}
-use Rattle.theory_plane.specs.Plane.{PlanePoint}
-use Rattle.theory_substitution.specs.Motion.{Motion, moved}
+use Rattle.theory_substitution.specs.Motion.{moved}
 use Rattle.theory_substitution.specs.Plane.{plane_point}
 use Rattle.theory_substitution.specs.Points.{Points}
 use Rattle.theory_substitution.specs.RuleParts.{vertices_of}
@@ -35,7 +34,7 @@ use Rattle.window_descent.specs.declared.part.Part.{Part}
 use Rattle.window_descent.specs.declared.standing.Standing.{Standing}
 use Rattle.window_descent.specs.declared.standing.Standing.TheVariants.{Beyond, Within, Across}
 use Rattle.window_descent.specs.Standing.{window_box}
-use Rattle.window_descent.specs.Bounds.{AreBounds, AreLimits, LiesBetween, IsEnclosed, shifted_spot, witness_of}
+use Rattle.window_descent.specs.Bounds.{AreBounds, AreLimits, LiesBetween, IsEnclosed, shifted_spot}
 use Rattle.window_descent.specs.Parts.{IsPlacedPart, IsPlacedBy, only_turned}
 use Rattle.window_descent.proofs.RowsMade.{origin-zero}
 

@@ -10,7 +10,9 @@ use Rattle.theory_frames.specs.Looked.{powers_from}
 use Rattle.rule_model.specs.declared.rule.Rule.{Rule}
 use Rattle.rule_model.specs.Views.{rule_of}
 use Rattle.window_descent.specs.declared.part.Part.{Part}
+use Rattle.window_descent.specs.declared.row_key.RowKey.{RowKey}
 use Rattle.window_descent.specs.declared.rows.Rows.{Rows}
+use Rattle.window_descent.specs.declared.bounds.Bounds.{Bounds}
 use Rattle.window_descent.specs.Bounds.{AreBounds}
 pub use Rattle.window_descent.specs.Parts.{only_turned}
 use Rattle.window_descent.specs.Parts.{IsPartAt}
@@ -18,6 +20,11 @@ use Rattle.window_descent.specs.Parts.{IsPartAt}
 -- the place of the row and the bounds of a level, a kind and a turn
 abbrev pub row_place : ℕ → ℕ → ℕ → ℕ
 row_place level kind turn = (level * 16 + kind) * 16 + turn
+
+-- the rule has such supertiles
+pub record IsRowOf (m : Rule) (row : RowKey) : Type 0 where
+  pub kind_exists : row.kind < length (rule_of m).kinds
+  pub turn_below : row.turn < (points_of m.order).order
 
 -- a value for a place without a part
 abbrev pub no_part : Part
@@ -53,6 +60,19 @@ pub record AreRows (m : Rule) (rows : Rows) : Type 0 where
       → turn < (points_of m.order).order
       → IfSome (get_or rows.bounds.items (row_place level kind turn) None)
       (AreBounds m (scale_of rows level) kind turn)
+
+-- the rule has such supertiles, and the rows their level
+pub record HasRow (m : Rule) (rows : Rows) (row : RowKey) : Type 0 where
+  pub level_exists : row.level < levels_of rows
+  pub turned : IsRowOf m row
+
+-- the list has the children of a row from this place on
+abbrev pub HasChildren : Rule → Rows → RowKey → List Part → ℕ → Type 0
+HasChildren m rows row = IsChildRow m (scale_of rows row.level) row.kind row.turn
+
+-- the bounds are those of the supertiles of a row
+abbrev pub HasBounds : Rule → Rows → RowKey → Bounds → Type 0
+HasBounds m rows row = AreBounds m (scale_of rows row.level) row.kind row.turn
 
 -- the second list begins with the parts of the first
 pub record IsLonger (xs ys : List Part) : Type 0 where

@@ -10,6 +10,7 @@ ghost use Rattle.cyclo_points.specs.Witness.{witness_in};
 ghost use Rattle.plane_geom.specs.Spots.{PlanePointOf, spot_of};
 ghost use Rattle.window_descent.specs.Bounds.{witness_of, IsShortNumber, IsEnclosed, AreLimits, AreWithin, LiesBetween};
 ghost use Rattle.window_descent.specs.declared.standing.Standing.TheVariants as Standing;
+ghost use Rattle.window_descent.specs.Reach.{IsInReach};
 
 use crate::sides::{high_of, wide_of};
 use crate::standing::Standing;
@@ -83,7 +84,7 @@ impl Bounds {
     /// shift is far from the window.
     pub(crate) fn limits(order: Order, window: &Window, shift: &Point) -> Option<Bounds>
         requires shift_within { IsWithin (2 ^ 25) shift.now }
-        requires centre_within { IsWithin (2 ^ 25) window.now.centre }
+        requires centre_within { IsInReach window.now }
         ensures { IfSome result (AreLimits order window.now shift.now) }
     {
         let across = short_witness(order, &wide_of(order, window, shift))?;

@@ -5,7 +5,8 @@ ghost use Rattle.theory_walks.specs.Ancestors.{full};
 ghost use Rattle.lazy_walk.specs.Ancestors.{IsAncestor};
 ghost use Rattle.theory_walks.specs.Frames.{IsFrameOf, GrowsTo};
 ghost use Rattle.rule_model.specs.Tiling.{tiling_of};
-ghost use Rattle.window_descent.specs.Climbing.{holds_at, IsTried, IsClimbedTo};
+ghost use Rattle.window_descent.specs.Climbing.{IsTried, IsClimbedTo};
+ghost use Rattle.window_descent.specs.Reach.{IsInReach};
 
 use crate::meeting::holds;
 use lazy_walk::ancestor::Ancestor;
@@ -20,7 +21,7 @@ use tile_place::machine::Machine;
 /// clause speaks of this case.
 pub fn climb(machine: &Machine, frame: &mut Frame, window: &Window, from: u8) -> Option<Ancestor>
     requires frame { IsFrameOf (tiling_of machine.now) frame.old }
-    requires centre_within { IsWithin (2 ^ 25) window.now.centre }
+    requires centre_within { IsInReach window.now }
     ensures frame { GrowsTo (tiling_of machine.now) frame.old frame.new }
     ensures deep { IfSome result (λ top. top.level ≤ length frame.new.digits) }
     ensures ancestor { IfSome result (IsAncestor (tiling_of machine.now)
@@ -45,7 +46,8 @@ pub fn climb(machine: &Machine, frame: &mut Frame, window: &Window, from: u8) ->
     }
 }
 
-/// Tests if an ancestor has the level or a higher one, and holds the window.
+/// Tests if an ancestor has the level or a higher one, and holds the window. Returns None if one of its
+/// vertices is refused.
 fn tried(
     machine: &Machine,
     frame: &Frame,
@@ -57,31 +59,13 @@ fn tried(
     requires deep { ancestor.now.level ≤ length frame.now.digits }
     requires ancestor { IsAncestor (tiling_of machine.now)
         (full (tiling_of machine.now) frame.now) ancestor.now }
-    requires centre_within { IsWithin (2 ^ 25) window.now.centre }
+    requires centre_within { IsInReach window.now }
     ensures { IfSome result (IsTried (tiling_of machine.now)
         (full (tiling_of machine.now) frame.now) window.now from ancestor.now.level) }
 {
     if ancestor.level < from {
         return Some(false);
     }
-    ancestor_holds(machine, frame, ancestor, window)
-}
-
-/// Returns true if an ancestor holds the window, or None if one of its vertices is refused.
-fn ancestor_holds(
-    machine: &Machine,
-    frame: &Frame,
-    ancestor: &Ancestor,
-    window: &Window,
-) -> Option<bool>
-    requires frame { IsFrameOf (tiling_of machine.now) frame.now }
-    requires deep { ancestor.now.level ≤ length frame.now.digits }
-    requires ancestor { IsAncestor (tiling_of machine.now)
-        (full (tiling_of machine.now) frame.now) ancestor.now }
-    requires centre_within { IsWithin (2 ^ 25) window.now.centre }
-    ensures { IfSome result (λ holds. holds ≡ holds_at (tiling_of machine.now)
-        (full (tiling_of machine.now) frame.now) window.now ancestor.now.level) }
-{
     let order = machine.checked().order();
     let kind = frame.kind_of(machine, ancestor.level);
     match machine.outline(kind, &ancestor.power, &ancestor.motion) {

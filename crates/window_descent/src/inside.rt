@@ -6,6 +6,7 @@ ghost use Rattle.cyclo_points.specs.Order.{points_of};
 ghost use Rattle.cyclo_points.specs.Point.{IsWithin};
 ghost use Rattle.cyclo_points.specs.Real.{real_in, IsRealWithin};
 ghost use Rattle.window_descent.specs.Inside.{IsWellInside};
+ghost use Rattle.window_descent.specs.Reach.{IsInReach};
 
 use cyclo_points::coordinates::{x, y};
 use cyclo_points::order::Order;
@@ -22,7 +23,7 @@ const GREATEST_PART: i64 = 1 << 24;
 /// False says nothing about the point.
 pub fn is_inside(order: Order, window: &Window, p: &Point) -> bool
     requires p_within { IsWithin (2 ^ 25) p.now }
-    requires centre_within { IsWithin (2 ^ 25) window.now.centre }
+    requires centre_within { IsInReach window.now }
     ensures { IsTrue result → IsWellInside order window.now p.now }
 {
     let wide = rsub(&x(order, p), &x(order, &window.centre));

@@ -18,6 +18,7 @@ pub mod meeting;
 pub mod part;
 pub mod placing;
 mod row_bounds;
+mod row_key;
 pub mod rows;
 mod sides;
 pub mod standing;

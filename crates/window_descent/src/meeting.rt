@@ -8,6 +8,7 @@ ghost use Rattle.theory_windows.specs.Outlines.{edges};
 ghost use Rattle.theory_descents.specs.Climb.{holds_window};
 ghost use Rattle.theory_descents.specs.MeetingTest.{polygon_meets};
 ghost use Rattle.window_descent.specs.Standing.{window_box};
+ghost use Rattle.window_descent.specs.Reach.{AreInReach, IsInReach};
 
 use crate::inside::is_inside;
 use cyclo_points::order::Order;
@@ -22,8 +23,8 @@ use plane_geom::window::Window;
 pub fn meets(order: Order, window: &Window, corners: &[Point]) -> bool
     requires at_least_three { 3 ≤ length corners.now }
     requires at_most_24 { length corners.now ≤ 24 }
-    requires within { All (IsWithin (2 ^ 25)) corners.now }
-    requires centre_within { IsWithin (2 ^ 25) window.now.centre }
+    requires within { AreInReach corners.now }
+    requires centre_within { IsInReach window.now }
     ensures { result
         ≡ polygon_meets (reals_of order) (window_box order window.now) (spots_of order corners.now) }
 {
@@ -36,8 +37,8 @@ pub fn meets(order: Order, window: &Window, corners: &[Point]) -> bool
 pub fn holds(order: Order, window: &Window, corners: &[Point]) -> bool
     requires at_least_three { 3 ≤ length corners.now }
     requires at_most_24 { length corners.now ≤ 24 }
-    requires within { All (IsWithin (2 ^ 25)) corners.now }
-    requires centre_within { IsWithin (2 ^ 25) window.now.centre }
+    requires within { AreInReach corners.now }
+    requires centre_within { IsInReach window.now }
     ensures { result
         ≡ holds_window (reals_of order) (window_box order window.now) (spots_of order corners.now) }
 {
@@ -47,8 +48,8 @@ pub fn holds(order: Order, window: &Window, corners: &[Point]) -> bool
 /// Returns true only if a vertex of the polygon lies well inside the window. Then an edge from it meets the
 /// window.
 fn some_vertex_inside(order: Order, window: &Window, corners: &[Point]) -> bool
-    requires within { All (IsWithin (2 ^ 25)) corners.now }
-    requires centre_within { IsWithin (2 ^ 25) window.now.centre }
+    requires within { AreInReach corners.now }
+    requires centre_within { IsInReach window.now }
     ensures { IsTrue result → list_any (λ e. box_test (reals_of order) e.from e.to
         (window_box order window.now)) (edges (spots_of order corners.now)) ≡ true }
 {
@@ -63,8 +64,8 @@ fn some_vertex_inside(order: Order, window: &Window, corners: &[Point]) -> bool
 /// Returns true exactly if an edge of the polygon meets the window.
 fn some_edge_meets(order: Order, window: &Window, corners: &[Point]) -> bool
     requires at_least_three { 3 ≤ length corners.now }
-    requires within { All (IsWithin (2 ^ 25)) corners.now }
-    requires centre_within { IsWithin (2 ^ 25) window.now.centre }
+    requires within { AreInReach corners.now }
+    requires centre_within { IsInReach window.now }
     ensures { result ≡ list_any (λ e. box_test (reals_of order) e.from e.to
         (window_box order window.now)) (edges (spots_of order corners.now)) }
 {
@@ -84,7 +85,7 @@ fn some_edge_meets(order: Order, window: &Window, corners: &[Point]) -> bool
 fn edge_meets(order: Order, window: &Window, start: &Point, end: &Point) -> bool
     requires start_within { IsWithin (2 ^ 25) start.now }
     requires end_within { IsWithin (2 ^ 25) end.now }
-    requires centre_within { IsWithin (2 ^ 25) window.now.centre }
+    requires centre_within { IsInReach window.now }
     ensures { result
         ≡ box_test (reals_of order) (spot_of order start.now) (spot_of order end.now)
         (window_box order window.now) }

@@ -1,10 +1,9 @@
 //! The parts of a supertile.
-ghost use Rattle.std.specs.Prelude.{◌<◌, ◌^◌, length, IfSome};
-ghost use Rattle.cyclo_points.specs.Order.{points_of};
-ghost use Rattle.cyclo_points.specs.Point.{IsOf, IsWithin};
+ghost use Rattle.std.specs.Prelude.{◌≡◌, ◌<◌, ◌^◌, length, IfSome};
+ghost use Rattle.cyclo_points.specs.Point.{IsWithin};
 ghost use Rattle.rule_model.specs.Views.{rule_of};
 ghost use Rattle.theory_substitution.specs.Rule.{children_of};
-ghost use Rattle.window_descent.specs.Parts.{IsPartAt};
+ghost use Rattle.window_descent.specs.Parts.{IsPartAt, IsPlacedPart};
 
 use cyclo_points::arithmetic::refused;
 use cyclo_points::motion::Motion;
@@ -22,23 +21,21 @@ pub struct Part {
 
 /// Returns a child of a supertile as a part of it, or None if its shift is refused. All children have the
 /// same `scale`.
-pub fn part_of(machine: &Machine, kind: u8, number: u8, scale: &Point, at: &Motion) -> Option<Part>
-    requires exists { kind < length (rule_of machine.now).kinds }
-    requires child_exists { number < length (children_of (rule_of machine.now) kind) }
+pub(crate) fn part_of(machine: &Machine, parent: &Part, number: u8, scale: &Point) -> Option<Part>
+    requires parent { IsPlacedPart machine.now parent.now }
+    requires child { number < length (children_of (rule_of machine.now) parent.now.kind) }
     requires scale_within { IsWithin (2 ^ 24) scale.now }
-    requires turn_below { at.now.turn < (points_of machine.now.order).order }
-    requires at_within { IsWithin (2 ^ 24) at.now.shift }
-    requires at_in_order { IsOf machine.now.order at.now.shift }
-    ensures part { IfSome result (IsPartAt machine.now kind number scale.now at.now) }
+    ensures part { IfSome result
+        (IsPartAt machine.now parent.now.kind number scale.now parent.now.motion) }
 {
     let checked = machine.checked();
     let order = checked.order();
-    let child = checked.child(kind, number);
+    let child = checked.child(parent.kind, number);
     let scaled = Motion {
         turn: child.turn,
         shift: mul(order, scale, &child.shift),
     };
-    let motion = compose(order, at, &scaled);
+    let motion = compose(order, &parent.motion, &scaled);
     if refused(&motion.shift) {
         return None;
     }

@@ -6,10 +6,12 @@ ghost use Rattle.rule_model.specs.Tiling.{tiling_of};
 ghost use Rattle.window_descent.specs.Parts.{IsPlacedPart, IsPlacedBy, standing_of};
 ghost use Rattle.window_descent.specs.Rows.{AreRows, levels_of};
 ghost use Rattle.window_descent.specs.declared.standing.Standing.TheVariants as Standing;
+ghost use Rattle.window_descent.specs.Reach.{IsInReach, HasArea};
 
 use crate::bounds::Bounds;
 use crate::meeting::meets;
 use crate::part::Part;
+use crate::row_key::RowKey;
 use crate::rows::Rows;
 use crate::standing::{Standing, beside};
 use cyclo_points::point::Point;
@@ -31,7 +33,7 @@ pub fn place_of(
     requires part { IsPlacedPart machine.now part.now }
     requires rows { AreRows machine.now rows.old }
     requires level_exists { level < levels_of rows.old }
-    requires centre_within { IsWithin (2 ^ 25) window.now.centre }
+    requires centre_within { IsInReach window.now }
     requires some_width { 0 < window.now.w }
     requires some_height { 0 < window.now.h }
     ensures rows { AreRows machine.now rows.new }
@@ -55,15 +57,18 @@ fn by_bounds(
     requires part { IsPlacedPart machine.now part.now }
     requires rows { AreRows machine.now rows.old }
     requires level_exists { level < levels_of rows.old }
-    requires centre_within { IsWithin (2 ^ 25) window.now.centre }
-    requires some_width { 0 < window.now.w }
-    requires some_height { 0 < window.now.h }
+    requires window { HasArea window.now }
     ensures rows { AreRows machine.now rows.new }
     ensures levels { levels_of rows.new ≡ levels_of rows.old }
     ensures placed { IfSome result (IsPlacedBy (tiling_of machine.now) window.now level part.now) }
 {
     let order = machine.checked().order();
-    let bounds = rows.bounds(machine, level, part.kind, part.motion.turn)?;
+    let row = RowKey {
+        level,
+        kind: part.kind,
+        turn: part.motion.turn,
+    };
+    let bounds = rows.bounds(machine, row)?;
     let limits = Bounds::limits(order, window, &part.motion.shift)?;
     unless_open(bounds.beside(&limits), level)
 }
@@ -90,9 +95,7 @@ fn by_outline(
     requires part { IsPlacedPart machine.now part.now }
     requires scale_within { IsWithin (2 ^ 24) scale.now }
     requires scale_is { point_in machine.now.order scale.now ≡ factor_power (tiling_of machine.now) level }
-    requires centre_within { IsWithin (2 ^ 25) window.now.centre }
-    requires some_width { 0 < window.now.w }
-    requires some_height { 0 < window.now.h }
+    requires window { HasArea window.now }
     ensures placed { IfSome result (IsPlacedBy (tiling_of machine.now) window.now level part.now) }
 {
     let order = machine.checked().order();

@@ -7,11 +7,12 @@ ghost use Rattle.rule_model.specs.Tiling.{tiling_of};
 ghost use Rattle.rule_model.specs.Views.{rule_of};
 ghost use Rattle.theory_substitution.specs.Rule.{children_of};
 ghost use Rattle.window_descent.specs.Parts.{IsPartAt, IsPlacedPart};
-ghost use Rattle.window_descent.specs.Rows.{AreRows, IsChildRow, IsLonger, IsShifted, row_place, scale_of};
-ghost use Rattle.window_descent.specs.Rows.{levels_of};
+ghost use Rattle.window_descent.specs.Rows.{AreRows, IsChildRow, IsLonger, IsShifted, scale_of};
+ghost use Rattle.window_descent.specs.Rows.{levels_of, HasRow, HasChildren, IsRowOf};
 
 use crate::bounds::Bounds;
 use crate::part::{Part, part_of};
+use crate::row_key::RowKey;
 use arrayvec::ArrayVec;
 use cyclo_points::arithmetic::{add, refused};
 use cyclo_points::motion::Motion;
@@ -83,11 +84,15 @@ impl Rows {
         ensures child { IfOk result (λ child. IfSome child
             (IsPartAt machine.now part.now.kind number (scale_of self.old level) part.now.motion)) }
     {
-        let Motion { turn, shift } = part.motion;
-        match self.first(machine, level, part.kind, turn)? {
+        let row = RowKey {
+            level,
+            kind: part.kind,
+            turn: part.motion.turn,
+        };
+        match self.first(machine, row)? {
             Some(first) => {
                 let child = &self.children[first as usize + number as usize];
-                Ok(moved(child, &shift))
+                Ok(moved(child, &part.motion.shift))
             }
             None => Ok(None),
         }
@@ -95,26 +100,18 @@ impl Rows {
 
     /// Returns where the row of a level, a kind and a turn begins, and makes the row first if needed. Returns
     /// None if a shift in it is refused.
-    fn first(
-        &mut self,
-        machine: &Machine,
-        level: u8,
-        kind: u8,
-        turn: u8,
-    ) -> Result<Option<u32>, NoMemory>
+    fn first(&mut self, machine: &Machine, row: RowKey) -> Result<Option<u32>, NoMemory>
         requires rows { AreRows machine.now self.old }
-        requires level_exists { level < levels_of self.old }
-        requires kind_exists { kind < length (rule_of machine.now).kinds }
-        requires turn_below { turn < (points_of machine.now.order).order }
+        requires row { HasRow machine.now self.old row }
         ensures rows { AreRows machine.now self.new }
         ensures same_powers { self.new.powers.items ≡ self.old.powers.items }
         ensures row { IfOk result (λ first. IfSome first
-            (IsChildRow machine.now (scale_of self.old level) kind turn self.new.children.items)) }
+            (HasChildren machine.now self.old row self.new.children.items)) }
     {
         let _usable = machine.checked();
-        match self.firsts[place(level, kind, turn)] {
+        match self.firsts[row.place()] {
             Some(first) => Ok(Some(first)),
-            None => self.make(machine, level, kind, turn),
+            None => self.make(machine, row),
         }
     }
 
@@ -122,21 +119,13 @@ impl Rows {
     /// it is refused.
     #[cold]
     #[inline(never)]
-    fn make(
-        &mut self,
-        machine: &Machine,
-        level: u8,
-        kind: u8,
-        turn: u8,
-    ) -> Result<Option<u32>, NoMemory>
+    fn make(&mut self, machine: &Machine, row: RowKey) -> Result<Option<u32>, NoMemory>
         requires rows { AreRows machine.now self.old }
-        requires level_exists { level < levels_of self.old }
-        requires kind_exists { kind < length (rule_of machine.now).kinds }
-        requires turn_below { turn < (points_of machine.now.order).order }
+        requires row { HasRow machine.now self.old row }
         ensures rows { AreRows machine.now self.new }
         ensures same_powers { self.new.powers.items ≡ self.old.powers.items }
         ensures row { IfOk result (λ first. IfSome first
-            (IsChildRow machine.now (scale_of self.old level) kind turn self.new.children.items)) }
+            (HasChildren machine.now self.old row self.new.children.items)) }
     {
         let first = match u32::try_from(self.children.len()) {
             Ok(first) => first,
@@ -144,15 +133,14 @@ impl Rows {
         };
         if !push_row(
             machine,
-            &self.powers.as_slice()[level as usize],
-            kind,
-            turn,
+            &self.powers.as_slice()[row.level as usize],
+            row,
             &mut self.children,
         )? {
             return Ok(None);
         }
         let _usable = machine.checked();
-        self.firsts[place(level, kind, turn)] = Some(first);
+        self.firsts[row.place()] = Some(first);
         Ok(Some(first))
     }
 }
@@ -162,36 +150,30 @@ impl Rows {
 fn push_row(
     machine: &Machine,
     scale: &Point,
-    kind: u8,
-    turn: u8,
+    row: RowKey,
     children: &mut Vec<Part>,
 ) -> Result<bool, NoMemory>
-    requires kind_exists { kind < length (rule_of machine.now).kinds }
-    requires turn_below { turn < (points_of machine.now.order).order }
+    requires row { IsRowOf machine.now row }
     requires scale_within { IsWithin (2 ^ 24) scale.now }
     ensures longer { IsLonger children.old.items children.new.items }
     ensures row { IfOk result (λ done. IsTrue done
-        → IsChildRow machine.now scale.now kind turn children.new.items (length children.old.items)) }
+        → IsChildRow machine.now scale.now row.kind row.turn children.new.items (length children.old.items)) }
 {
-    let at = Motion {
-        turn,
-        shift: Point { c: [0, 0, 0, 0] },
+    let parent = Part {
+        kind: row.kind,
+        motion: Motion {
+            turn: row.turn,
+            shift: Point { c: [0, 0, 0, 0] },
+        },
     };
-    let count = machine.checked().rule().child_count(usize::from(kind));
+    let count = machine.checked().rule().child_count(usize::from(row.kind));
     for number in 0..count {
-        match part_of(machine, kind, number as u8, scale, &at) {
+        match part_of(machine, &parent, number as u8, scale) {
             Some(child) => children.push(child)?,
             None => return Ok(false),
         }
     }
     Ok(true)
-}
-
-/// Returns the place in the index of rows for a level, a kind and a turn.
-pub(crate) fn place(level: u8, kind: u8, turn: u8) -> usize
-    ensures { result ≡ row_place level kind turn }
-{
-    (usize::from(level) * 16 + usize::from(kind)) * 16 + usize::from(turn)
 }
 
 /// Returns a child of a supertile that is shifted as well, or None if the new shift is refused.

@@ -7,6 +7,7 @@ ghost use Rattle.cyclo_points.specs.Real.{real_in, IsRealWithin};
 ghost use Rattle.plane_geom.specs.Spots.{reals_of, spot_of};
 ghost use Rattle.theory_descents.specs.Insets.{inside_right, inside_left, inside_upper, inside_lower};
 ghost use Rattle.window_descent.specs.Standing.{window_box};
+ghost use Rattle.window_descent.specs.Reach.{IsInReach};
 
 use cyclo_points::coordinates::{x, y};
 use cyclo_points::order::Order;
@@ -39,7 +40,7 @@ pub(crate) struct Sides {
 /// Finds which sides of a window a point is inside of.
 pub(crate) fn sides_of(order: Order, window: &Window, p: &Point) -> Sides
     requires p_within { IsWithin (2 ^ 25) p.now }
-    requires centre_within { IsWithin (2 ^ 25) window.now.centre }
+    requires centre_within { IsInReach window.now }
     ensures right { result.right
         ≡ inside_right (reals_of order) (window_box order window.now) (spot_of order p.now) }
     ensures left { result.left
@@ -62,7 +63,7 @@ pub(crate) fn sides_of(order: Order, window: &Window, p: &Point) -> Sides
 /// Returns X of a point relative to the centre of a window.
 pub(crate) fn wide_of(order: Order, window: &Window, p: &Point) -> Real
     requires p_within { IsWithin (2 ^ 25) p.now }
-    requires centre_within { IsWithin (2 ^ 25) window.now.centre }
+    requires centre_within { IsInReach window.now }
     ensures value { real_in order result
         ≡ difference (reals_of order).ops (spot_of order p.now).x (window_box order window.now).centre.x }
     ensures within { IsRealWithin (2 ^ 28) result }
@@ -73,7 +74,7 @@ pub(crate) fn wide_of(order: Order, window: &Window, p: &Point) -> Real
 /// Returns Y of a point relative to the centre of a window.
 pub(crate) fn high_of(order: Order, window: &Window, p: &Point) -> Real
     requires p_within { IsWithin (2 ^ 25) p.now }
-    requires centre_within { IsWithin (2 ^ 25) window.now.centre }
+    requires centre_within { IsInReach window.now }
     ensures value { real_in order result
         ≡ difference (reals_of order).ops (spot_of order p.now).y (window_box order window.now).centre.y }
     ensures within { IsRealWithin (2 ^ 28) result }

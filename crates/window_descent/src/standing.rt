@@ -3,6 +3,7 @@ ghost use Rattle.std.specs.Prelude.{◌≡◌, ◌^◌, ◌&&◌, ◌||◌, true
 ghost use Rattle.cyclo_points.specs.Point.{IsWithin};
 ghost use Rattle.window_descent.specs.Standing.{IsStanding};
 ghost use Rattle.window_descent.specs.declared.standing.Standing.TheVariants as Standing;
+ghost use Rattle.window_descent.specs.Reach.{AreInReach, IsInReach};
 
 use crate::sides::{Sides, sides_of};
 use cyclo_points::order::Order;
@@ -22,8 +23,8 @@ pub enum Standing {
 
 /// Finds how a polygon lies relative to a window, by its vertices.
 pub fn beside(order: Order, window: &Window, corners: &[Point]) -> Standing
-    requires within { All (IsWithin (2 ^ 25)) corners.now }
-    requires centre_within { IsWithin (2 ^ 25) window.now.centre }
+    requires within { AreInReach corners.now }
+    requires centre_within { IsInReach window.now }
     ensures { IsStanding order window.now corners.now result }
 {
     let mut every = Sides {

@@ -35,7 +35,7 @@ returns-then-mate-from c =
     let mates : mate (rule_of r) s.ty ≡ t.ty = sym (ap (mate (rule_of r)) c.from.ensures)
     ∙ sym (c.mate.ensures.numbers r.order) ∙ c.if-mate-from.true ∙ c.from-in-One.ensures in
     ap (λ b. met_by b (edge_in r.order t)) (sym (eq-eqb (mate (rule_of r) s.ty) t.ty mates))
-    ∙ lies r c.args.edges.now c.args.wholes.now s (One t) _ (c.in-One.ensures r c.requires.edges_fit c.requires.s_fit) refl
+    ∙ lies r c.args.edges.now c.args.wholes.now s (One t) _ (c.in-One.ensures r c.requires.edges.edges_fit c.requires.s_fit) refl
 
 pub returns-else-mate-from : goal.returns-else-mate-from
 returns-else-mate-from c =
@@ -45,18 +45,18 @@ returns-else-mate-from c =
     let back : mate (rule_of r) s.ty ≡ t.ty → c.mate.result ≡ c.from-in-One.result
     = λ e. c.mate.ensures.numbers r.order ∙ ap (mate (rule_of r)) c.from.ensures ∙ e ∙ sym c.from-in-One.ensures in
     ap (λ b. met_by b (edge_in r.order t)) (sym (ne_eqb (mate (rule_of r) s.ty) t.ty (λ e. c.if-mate-from.false (back e))))
-    ∙ lies r c.args.edges.now c.args.wholes.now s (One t) _ (c.in-One.ensures r c.requires.edges_fit c.requires.s_fit) refl
+    ∙ lies r c.args.edges.now c.args.wholes.now s (One t) _ (c.in-One.ensures r c.requires.edges.edges_fit c.requires.s_fit) refl
 
 pub returns-in-Many : goal.returns-in-Many
 returns-in-Many c = lies c.args.rule.now c.args.edges.now c.args.wholes.now c.args.s.now Many _
-    (c.in-Many.ensures c.args.rule.now c.requires.edges_fit c.requires.s_fit) refl
+    (c.in-Many.ensures c.args.rule.now c.requires.edges.edges_fit c.requires.s_fit) refl
 
 pub returns-in-One-wholes_along : goal.returns-in-One-wholes_along
 returns-in-One-wholes_along c = lies c.args.rule.now c.args.edges.now c.args.wholes.now c.args.s.now None (One c.in-One-wholes_along.edge)
-    (c.in-None.ensures c.args.rule.now c.requires.edges_fit c.requires.s_fit) c.in-One-wholes_along.ensures
+    (c.in-None.ensures c.args.rule.now c.requires.edges.edges_fit c.requires.s_fit) c.in-One-wholes_along.ensures
 
 pub returns-in_default : goal.returns-in_default
 returns-in_default c =
     not_alone c.wholes_along.result c.in_default.not-One
     ∙ lies c.args.rule.now c.args.edges.now c.args.wholes.now c.args.s.now None c.wholes_along.result
-    (c.in-None.ensures c.args.rule.now c.requires.edges_fit c.requires.s_fit) c.wholes_along.ensures
+    (c.in-None.ensures c.args.rule.now c.requires.edges.edges_fit c.requires.s_fit) c.wholes_along.ensures

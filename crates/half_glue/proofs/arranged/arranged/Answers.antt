@@ -31,7 +31,7 @@ returns-clause-in_order c =
     let mixed : IsPermutation (first_keys made) ks = subst (λ (xs : List OrderKey). IsPermutation xs ks)
     (c.in_ok-keys.ensures c.args.frame.now) c.sort_unstable.ensures.permutation in
     let fit = firsts-fit c.args.frame.now (c.args.tiles.now ++ c.args.made.now.crossed.items)
-    c.args.made.now.pairs.items c.requires.fit c.requires.numbered in
+    c.args.made.now.pairs.items c.requires.keyed.fit c.requires.keyed.numbered in
     IfOk-weaker c.picked.result _ _ (λ wholes h. subst AreWholesInOrder
     (sym (h no_whole ∙ ap (λ (xs : List OrderKey). chosen_below (is_new_key xs) (whole_at made no_whole xs)
     (length xs)) c.as_slice.ensures.value))
@@ -44,7 +44,7 @@ returns-clause-same c =
     let mixed : IsPermutation (first_keys made) ks = subst (λ (xs : List OrderKey). IsPermutation xs ks)
     (c.in_ok-keys.ensures c.args.frame.now) c.sort_unstable.ensures.permutation in
     let fit = firsts-fit c.args.frame.now (c.args.tiles.now ++ c.args.made.now.crossed.items)
-    c.args.made.now.pairs.items c.requires.fit c.requires.numbered in
+    c.args.made.now.pairs.items c.requires.keyed.fit c.requires.keyed.numbered in
     IfOk-weaker c.picked.result _ _ (λ wholes h. subst (AreWholesArranged made)
     (sym (h no_whole ∙ ap (λ (xs : List OrderKey). chosen_below (is_new_key xs) (whole_at made no_whole xs)
     (length xs)) c.as_slice.ensures.value))

@@ -4,7 +4,7 @@ use Rattle.cyclo_points.specs.Motion.{motion_in}
 use Rattle.cyclo_points.specs.Order.{points_of}
 use Rattle.theory_substitution.specs.Motion.{followed}
 use Rattle.rule_model.specs.declared.rule.Rule.{Rule}
-use Rattle.half_glue.proofs.AmongTiles.{each-place, place-below}
+use Rattle.half_glue.proofs.AmongTiles.{each-place}
 use Rattle.half_glue.proofs.covered_half.half_among.Goals as goal
 
 pub returns : goal.returns

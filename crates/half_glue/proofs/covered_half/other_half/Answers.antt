@@ -89,28 +89,6 @@ crossed_half-requires-clause-glue_edge g c =
     (c.from.ensures ∙ kind-is c.args.tiles.now c.args.number c.requires.below c.kind-kind.result
     c.kind-kind.ensures) c.in-Some.side c.in-Some.is)
 
-pub returns-in_err-other-clause-least : goal.returns-in_err-other-clause-least
-returns-in_err-other-clause-least g c = λ n l h.
-    subst (λ (x : PlacedTile). IsTooShallow (tiling_of c.args.machine.now) c.args.frame.now (x ∷ []) n)
-    (sym (tile-is c.args.tiles.now c.args.number c.requires.below c.tile-tile.result c.tile-tile.ensures))
-    (c.in_err-other.ensures.least n l h)
-
-pub returns-in_err-other-clause-answered : goal.returns-in_err-other-clause-answered
-returns-in_err-other-clause-answered g c = λ can.
-    absurd (cc (c.in_err-other.ensures.answered
-    (subst (CanBeJoined (tiling_of c.args.machine.now)
-    (full (tiling_of c.args.machine.now) c.args.frame.now))
-    (tile-is c.args.tiles.now c.args.number c.requires.below c.tile-tile.result c.tile-tile.ensures)
-    can)))
-
-pub returns-in_err-other-clause-cause : goal.returns-in_err-other-clause-cause
-returns-in_err-other-clause-cause g c =
-    if_err-is _ c.from_residual.result c.in_err-other.field-0.0 c.from_residual.ensures.1
-    (subst (λ (x : PlacedTile). HasGlueCause (tiling_of c.args.machine.now) c.args.frame.now
-    c.crossed_half.new.frame (x ∷ []) c.in_err-other.field-0.0)
-    (sym (tile-is c.args.tiles.now c.args.number c.requires.below c.tile-tile.result c.tile-tile.ensures))
-    c.in_err-other.ensures.cause)
-
 pub returns-clause-joined : goal.returns-clause-joined
 returns-clause-joined g c =
     subst (λ (x : PlacedTile). IsJoined (tiling_of c.args.machine.now) c.args.frame.now c.crossed_half.new.frame c.args.tiles.now
@@ -122,26 +100,8 @@ returns-clause-joined g c =
       can_be_joined = c.in_ok-other.ensures.can_be_joined;
     })
 
-pub returns-clause-least : goal.returns-clause-least
-returns-clause-least g c = λ n l h.
-    subst (λ (x : PlacedTile). IsTooShallow (tiling_of c.args.machine.now) c.args.frame.now (x ∷ []) n)
-    (sym (tile-is c.args.tiles.now c.args.number c.requires.below c.tile-tile.result c.tile-tile.ensures))
-    (c.in_ok-other.ensures.least n l h)
-
 pub kind-kind-requires : goal.kind-kind-requires
 kind-kind-requires g c = grind (arith, common_steps)
-
-pub returns-in-None-clause-frame : goal.returns-in-None-clause-frame
-returns-in-None-clause-frame g c = grind (arith, common_steps)
-
-pub returns-in-None-clause-least : goal.returns-in-None-clause-least
-returns-in-None-clause-least g c = grind (arith, common_steps)
-
-pub returns-in-None-clause-answered : goal.returns-in-None-clause-answered
-returns-in-None-clause-answered g c = grind (arith, common_steps)
-
-pub returns-in-None-clause-cause : goal.returns-in-None-clause-cause
-returns-in-None-clause-cause g c = grind (arith, common_steps)
 
 pub motion-motion-requires : goal.motion-motion-requires
 motion-motion-requires g c = grind (arith, common_steps)
@@ -152,35 +112,58 @@ half_among-requires-clause-few g c = grind (arith, common_steps)
 pub half_among-requires-clause-in_order : goal.half_among-requires-clause-in_order
 half_among-requires-clause-in_order g c = grind (arith, common_steps)
 
-pub returns-in-Some-half_among-clause-frame : goal.returns-in-Some-half_among-clause-frame
-returns-in-Some-half_among-clause-frame g c = grind (arith, common_steps)
-
-pub returns-in-Some-half_among-clause-least : goal.returns-in-Some-half_among-clause-least
-returns-in-Some-half_among-clause-least g c = grind (arith, common_steps)
-
-pub returns-in-Some-half_among-clause-answered : goal.returns-in-Some-half_among-clause-answered
-returns-in-Some-half_among-clause-answered g c = grind (arith, common_steps)
-
-pub returns-in-Some-half_among-clause-cause : goal.returns-in-Some-half_among-clause-cause
-returns-in-Some-half_among-clause-cause g c = grind (arith, common_steps)
-
 pub tile-tile-requires : goal.tile-tile-requires
 tile-tile-requires g c = grind (arith, common_steps)
 
 pub crossed_half-requires-clause-frame : goal.crossed_half-requires-clause-frame
 crossed_half-requires-clause-frame g c = grind (arith, common_steps)
 
-pub returns-in_err-other-clause-frame : goal.returns-in_err-other-clause-frame
-returns-in_err-other-clause-frame g c = grind (arith, common_steps)
-
 pub returns-in_err-other-clause-joined : goal.returns-in_err-other-clause-joined
 returns-in_err-other-clause-joined g c = grind (arith, common_steps)
 
-pub returns-clause-frame : goal.returns-clause-frame
-returns-clause-frame g c = grind (arith, common_steps)
+pub returns-in-None-clause-ends : goal.returns-in-None-clause-ends
+returns-in-None-clause-ends g c = record {
+  frame = grind (arith, common_steps);
+  least = grind (arith, common_steps);
+  answered = grind (arith, common_steps);
+  cause = grind (arith, common_steps);
+}
 
-pub returns-clause-answered : goal.returns-clause-answered
-returns-clause-answered g c = grind (arith, common_steps)
+pub returns-in-Some-half_among-clause-ends : goal.returns-in-Some-half_among-clause-ends
+returns-in-Some-half_among-clause-ends g c = record {
+  frame = grind (arith, common_steps);
+  least = grind (arith, common_steps);
+  answered = grind (arith, common_steps);
+  cause = grind (arith, common_steps);
+}
 
-pub returns-clause-cause : goal.returns-clause-cause
-returns-clause-cause g c = grind (arith, common_steps)
+pub returns-in_err-other-clause-ends : goal.returns-in_err-other-clause-ends
+returns-in_err-other-clause-ends g c = record {
+  frame = grind (arith, common_steps);
+  least = λ n l h.
+      subst (λ (x : PlacedTile). IsTooShallow (tiling_of c.args.machine.now) c.args.frame.now (x ∷ []) n)
+      (sym (tile-is c.args.tiles.now c.args.number c.requires.below c.tile-tile.result c.tile-tile.ensures))
+      (c.in_err-other.ensures.ends.least n l h);
+  answered = λ can.
+      absurd (cc (c.in_err-other.ensures.ends.answered
+      (subst (CanBeJoined (tiling_of c.args.machine.now)
+      (full (tiling_of c.args.machine.now) c.args.frame.now))
+      (tile-is c.args.tiles.now c.args.number c.requires.below c.tile-tile.result c.tile-tile.ensures)
+      can)));
+  cause = if_err-is _ c.from_residual.result c.in_err-other.field-0.0 c.from_residual.ensures.1
+      (subst (λ (x : PlacedTile). HasGlueCause (tiling_of c.args.machine.now) c.args.frame.now
+      c.crossed_half.new.frame (x ∷ []) c.in_err-other.field-0.0)
+      (sym (tile-is c.args.tiles.now c.args.number c.requires.below c.tile-tile.result c.tile-tile.ensures))
+      c.in_err-other.ensures.ends.cause);
+}
+
+pub returns-clause-ends : goal.returns-clause-ends
+returns-clause-ends g c = record {
+  frame = grind (arith, common_steps);
+  least = λ n l h.
+      subst (λ (x : PlacedTile). IsTooShallow (tiling_of c.args.machine.now) c.args.frame.now (x ∷ []) n)
+      (sym (tile-is c.args.tiles.now c.args.number c.requires.below c.tile-tile.result c.tile-tile.ensures))
+      (c.in_ok-other.ensures.ends.least n l h);
+  answered = grind (arith, common_steps);
+  cause = grind (arith, common_steps);
+}

@@ -1,8 +1,8 @@
-use Rattle.std.proofs.Common.{◌≡◌, ℕ, ◌<◌, ◌++◌, length, sym, ap, ap₂, ◌∙◌, subst}
+use Rattle.std.proofs.Common.{ℕ, ◌<◌, length, sym, ap, ap₂, ◌∙◌, subst}
 use Rattle.cyclo_points.specs.declared.motion.Motion.{Motion}
 use Rattle.tile_place.specs.Keys.{key_of}
 use Rattle.tile_place.specs.declared.placed_tile.PlacedTile.{PlacedTile}
-use Rattle.half_glue.specs.Found.{no_tile, given_tile}
+use Rattle.half_glue.specs.Found.{no_tile}
 use Rattle.half_glue.specs.Keys.{HasTileKey}
 use Rattle.half_glue.proofs.AmongTiles.{kind-is, motion-is, front-there, behind-there}
 use Rattle.half_glue.proofs.covered_order.key_of.Goals as goal

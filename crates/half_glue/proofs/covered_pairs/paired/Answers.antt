@@ -1,4 +1,5 @@
 use Rattle.std.proofs.Common.{◌+◌, ◌<◌, ◌≤◌, ◌∙◌, [], All, List, ◌++◌, length, sym, ap, subst, arith, take_all, append_assoc}
+use Rattle.std.proofs.lemmas.Grind.{common_steps}
 use Rattle.std.specs.List.{Contains}
 use Rattle.std.proofs.lemmas.List.{get_or_default}
 use Rattle.std.proofs.lemmas.List.Elements.{All-nil}
@@ -10,7 +11,9 @@ use Rattle.half_glue.specs.Depth.{IsGluedInside}
 use Rattle.half_glue.specs.Found.{no_tile, given_tile}
 use Rattle.half_glue.specs.Limits.{CanBeJoined}
 use Rattle.half_glue.specs.Pairs.{added_pairs}
-use Rattle.half_glue.proofs.InnerPairs.{are-placed, read-mark, none-crossed, taken-settled, taken-too as inner-taken}
+use Rattle.half_glue.specs.Sides.{AreSides}
+use Rattle.half_glue.proofs.InnerPairs.{are-placed, read-mark}
+use Rattle.half_glue.proofs.TakenTiles.{none-crossed, taken-settled, taken-too as inner-taken}
 use Rattle.theory_walks.proofs.Ancestors.{full-later}
 use Rattle.theory_walks.proofs.Outcomes.{if_err-is}
 use Rattle.theory_walks.proofs.Walks.{GrowsTo-self}
@@ -37,13 +40,6 @@ other_half-requires-clause-to_glue g c = record {
       c.loop-number.invariant.0.grows c.args.tiles.now c.requires.to_glue.given;
 }
 
-pub returns-in_err-found-clause-cause : goal.returns-in_err-found-clause-cause
-returns-in_err-found-clause-cause g c =
-    if_err-is _ c.from_residual-in_err-found.result c.in_err-found.field-0.0 c.from_residual-in_err-found.ensures.1
-    (cause-of (tiling_of c.args.machine.now) c.args.frame.now c.loop-number.frame
-    c.loop-number.invariant.0.grows c.args.tiles.now _ (its-tile g ((goal.at.returns-in_err-found-clause-cause g c).After-index))
-    c.other_half.new.frame c.in_err-found.field-0.0 c.in_err-found.ensures.cause)
-
 pub loop-number-preserved : goal.loop-number-preserved
 loop-number-preserved g c =
     let L = c.glue_laws.ensures in
@@ -57,7 +53,7 @@ loop-number-preserved g c =
     let below = below-count g ((goal.at.loop-number-preserved g c).After-index) in
     let x = given_tile tiles i in
     let settled = c.loop-number.invariant.0 in
-    let up = c.in_ok-found.ensures.frame in
+    let up = c.in_ok-found.ensures.ends.frame in
     let all_now = all-on c.args.machine.now L old now c.requires.to_glue.frame settled.grows tiles c.requires.to_glue.given in
     let all_after = all-on c.args.machine.now L now after settled.grows.is_frame up tiles all_now in
     let paired = paired-on c.args.machine.now L now after settled.grows.is_frame up tiles (length inner) i
@@ -66,7 +62,7 @@ loop-number-preserved g c =
     let more : List Pair = added_pairs tiles i (length c.loop-number.outer.crossed.items) c.in_ok-found.found in (
       one-more c.args.machine.now L old now c.requires.to_glue.frame tiles c.requires.to_glue.given i below x
           (get_or_default tiles i x no_tile below) settled after up c.in_ok-found.ensures.joined.inside
-          c.in_ok-found.ensures.joined.can_be_joined c.in_ok-found.ensures.least,
+          c.in_ok-found.ensures.joined.can_be_joined c.in_ok-found.ensures.ends.least,
       subst (λ (ps : List Pair). ArePaired t after tiles (length inner) (i + 1)
           c.put_covered.new.made.crossed.items ps)
           (sym (ap (λ (ps : List Pair). inner ++ ps) c.in_ok-put_covered.ensures.pairs
@@ -86,41 +82,14 @@ returns-clause-paired g c =
     c.in_ok-inner.ensures.rising.few (omega (arith, c.loop-number.auto.number-end, c.len-count.ensures))
     (λ l. omega (arith, l, c.loop-number-test.false, c.len-count.ensures)) c.loop-number.invariant.1
 
-pub returns-clause-least : goal.returns-clause-least
-returns-clause-least g c = record {
-  inside = subst (All (IsGluedInside (tiling_of c.args.machine.now) c.args.frame.now
-      (length c.loop-number.frame.digits))) (take_all c.loop-number.number c.args.tiles.now
-      (subst (λ n. n ≤ c.loop-number.number) c.len-count.ensures c.loop-number-test.false))
-      c.loop-number.invariant.0.inside;
-  least = c.loop-number.invariant.0.least;
+pub inner_pairs-requires-clause-sought : goal.inner_pairs-requires-clause-sought
+inner_pairs-requires-clause-sought g c = record {
+  few = c.requires.to_glue.few;
+  placed = are-placed c.args.machine.now c.glue_laws.ensures c.args.frame.now
+      c.requires.to_glue.frame c.args.tiles.now c.requires.to_glue.given;
+  in_order = c.requires.in_order;
+  sides = subst (AreSides (tiling_of c.args.machine.now)) (sym c.as_slice.ensures.value) c.in_ok-sides.ensures;
 }
-
-pub returns-clause-within : goal.returns-clause-within
-returns-clause-within g c =
-    subst (All (CanBeJoined (tiling_of c.args.machine.now)
-    (full (tiling_of c.args.machine.now) c.args.frame.now)))
-    (take_all c.loop-number.number c.args.tiles.now
-    (subst (λ n. n ≤ c.loop-number.number) c.len-count.ensures c.loop-number-test.false))
-    c.loop-number.invariant.0.joined
-
-pub returns-in_err-found-clause-not_beyond : goal.returns-in_err-found-clause-not_beyond
-returns-in_err-found-clause-not_beyond g c =
-    left-behind (tiling_of c.args.machine.now) c.args.frame.now c.loop-number.frame c.loop-number.invariant.0.grows
-    c.args.tiles.now _ (its-tile g ((goal.at.returns-in_err-found-clause-not_beyond g c).After-index))
-    c.loop-number.invariant.0.least c.other_half.new.frame c.in_err-found.ensures.least
-
-pub returns-in_err-put_covered-clause-not_beyond : goal.returns-in_err-put_covered-clause-not_beyond
-returns-in_err-put_covered-clause-not_beyond g c =
-    left-behind (tiling_of c.args.machine.now) c.args.frame.now c.loop-number.frame c.loop-number.invariant.0.grows
-    c.args.tiles.now _ (its-tile g ((goal.at.returns-in_err-put_covered-clause-not_beyond g c).After-index))
-    c.loop-number.invariant.0.least c.other_half.new.frame c.in_ok-found.ensures.least
-
-pub returns-clause-not_beyond : goal.returns-clause-not_beyond
-returns-clause-not_beyond g c = c.loop-number.invariant.0.least
-
-pub inner_pairs-requires-clause-placed : goal.inner_pairs-requires-clause-placed
-inner_pairs-requires-clause-placed g c = are-placed c.args.machine.now c.glue_laws.ensures c.args.frame.now
-    c.requires.to_glue.frame c.args.tiles.now c.requires.to_glue.given
 
 pub loop-number-init : goal.loop-number-init
 loop-number-init g c =
@@ -172,10 +141,54 @@ loop-number-preserved-then-index g c =
           (inner-taken c.args.machine.now L now is tiles inner marks h crossed outer i set),
     )
 
-pub returns-in_err-found-clause-answered : goal.returns-in_err-found-clause-answered
-returns-in_err-found-clause-answered g c = λ can.
-    let t = tiling_of c.args.machine.now in
-    absurd (cc (c.in_err-found.ensures.answered
-    (subst (λ y. CanBeJoined t y (given_tile c.args.tiles.now c.loop-number.number))
-    (sym (full-later t c.args.frame.now c.loop-number.frame c.loop-number.invariant.0.grows))
-    (can c.loop-number.number no_tile (below-count g ((goal.at.returns-in_err-found-clause-answered g c).After-index))))))
+pub returns-in_err-found-clause-ends : goal.returns-in_err-found-clause-ends
+returns-in_err-found-clause-ends g c = record {
+  frame = grind (arith, common_steps);
+  not_beyond = left-behind (tiling_of c.args.machine.now) c.args.frame.now c.loop-number.frame c.loop-number.invariant.0.grows
+      c.args.tiles.now _ (its-tile g ((goal.at.returns-in_err-found-clause-ends g c).After-index))
+      c.loop-number.invariant.0.least c.other_half.new.frame c.in_err-found.ensures.ends.least;
+  least = grind (arith, common_steps);
+  within = grind (arith, common_steps);
+  answered = λ can.
+      let t = tiling_of c.args.machine.now in
+      absurd (cc (c.in_err-found.ensures.ends.answered
+      (subst (λ y. CanBeJoined t y (given_tile c.args.tiles.now c.loop-number.number))
+      (sym (full-later t c.args.frame.now c.loop-number.frame c.loop-number.invariant.0.grows))
+      (can c.loop-number.number no_tile (below-count g ((goal.at.returns-in_err-found-clause-ends g c).After-index))))));
+  cause = if_err-is _ c.from_residual-in_err-found.result c.in_err-found.field-0.0 c.from_residual-in_err-found.ensures.1
+      (cause-of (tiling_of c.args.machine.now) c.args.frame.now c.loop-number.frame
+      c.loop-number.invariant.0.grows c.args.tiles.now _ (its-tile g ((goal.at.returns-in_err-found-clause-ends g c).After-index))
+      c.other_half.new.frame c.in_err-found.field-0.0 c.in_err-found.ensures.ends.cause);
+}
+
+pub returns-in_err-put_covered-clause-ends : goal.returns-in_err-put_covered-clause-ends
+returns-in_err-put_covered-clause-ends g c = record {
+  frame = grind (arith, common_steps);
+  not_beyond = left-behind (tiling_of c.args.machine.now) c.args.frame.now c.loop-number.frame c.loop-number.invariant.0.grows
+      c.args.tiles.now _ (its-tile g ((goal.at.returns-in_err-put_covered-clause-ends g c).After-index))
+      c.loop-number.invariant.0.least c.other_half.new.frame c.in_ok-found.ensures.ends.least;
+  least = grind (arith, common_steps);
+  within = grind (arith, common_steps);
+  answered = grind (arith, common_steps);
+  cause = grind (arith, common_steps);
+}
+
+pub returns-clause-ends : goal.returns-clause-ends
+returns-clause-ends g c = record {
+  frame = grind (arith, common_steps);
+  not_beyond = c.loop-number.invariant.0.least;
+  least = record {
+    inside = subst (All (IsGluedInside (tiling_of c.args.machine.now) c.args.frame.now
+        (length c.loop-number.frame.digits))) (take_all c.loop-number.number c.args.tiles.now
+        (subst (λ n. n ≤ c.loop-number.number) c.len-count.ensures c.loop-number-test.false))
+        c.loop-number.invariant.0.inside;
+    least = c.loop-number.invariant.0.least;
+  };
+  within = subst (All (CanBeJoined (tiling_of c.args.machine.now)
+      (full (tiling_of c.args.machine.now) c.args.frame.now)))
+      (take_all c.loop-number.number c.args.tiles.now
+      (subst (λ n. n ≤ c.loop-number.number) c.len-count.ensures c.loop-number-test.false))
+      c.loop-number.invariant.0.joined;
+  answered = grind (arith, common_steps);
+  cause = grind (arith, common_steps);
+}

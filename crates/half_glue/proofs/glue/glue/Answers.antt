@@ -20,12 +20,12 @@ pub returns-clause-least : goal.returns-clause-least
 returns-clause-least c =
     subst (λ (ts : List PlacedTile). OnOk c.glued.result (IsLeastForGlue (tiling_of c.args.machine.now) c.args.frame.now ts
     (length c.glued.new.frame.digits)))
-    c.as_slice.ensures.value (IfOk-weaker c.glued.result _ _ (λ wholes h. h.least) c.glued.ensures.glued)
+    c.as_slice.ensures.value c.glued.ensures.ends.least
 
 pub returns-clause-within : goal.returns-clause-within
 returns-clause-within c =
     subst (λ (ts : List PlacedTile). OnOk c.glued.result (CanBeGlued (tiling_of c.args.machine.now) c.args.frame.now ts))
-    c.as_slice.ensures.value (IfOk-weaker c.glued.result _ _ (λ wholes h. h.within) c.glued.ensures.glued)
+    c.as_slice.ensures.value c.glued.ensures.ends.within
 
 pub glued-requires-clause-name : goal.glued-requires-clause-name
 glued-requires-clause-name c = grind (arith, common_steps)

@@ -50,4 +50,11 @@ pub glue_edge-requires : goal.glue_edge-requires
 glue_edge-requires c = grind (arith, common_steps)
 
 pub are_mates-requires : goal.are_mates-requires
-are_mates-requires c = grind (arith, elements)
+are_mates-requires c = record {
+  own = c.requires;
+  other = record {
+    exists = grind (arith, elements);
+    glue_edge = (subst (λ (r : Rule). IsOnlyGlueEdge (tiling_of r).rule c.loop-other.other c.in-Some.back)
+        c.checked-in-loop-other.ensures.rule c.in-Some.ensures.only).glue_edge;
+  };
+}

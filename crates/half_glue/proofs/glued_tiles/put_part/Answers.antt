@@ -1,10 +1,10 @@
-use Rattle.std.proofs.Common.{◌≡◌, ◌++◌, sym, ap, ◌∙◌, subst}
+use Rattle.std.proofs.Common.{sym, ap, ◌∙◌, subst}
 use Rattle.theory_frames.specs.Frame.{lifted_in}
 use Rattle.tile_place.specs.declared.placed_tile.PlacedTile.{PlacedTile}
 use Rattle.tile_shape.specs.Views.{address_of, address_as}
 use Rattle.tile_shape.proofs.Seen.{address-known}
 use Rattle.theory_walks.specs.Frames.{whole}
-use Rattle.half_glue.specs.Found.{no_tile, given_tile}
+use Rattle.half_glue.specs.Found.{no_tile}
 use Rattle.half_glue.specs.Lifted.{IsNoDeeper}
 use Rattle.half_glue.proofs.glued_tiles.put_part.Goals as goal
 

@@ -20,26 +20,6 @@ cross_grow_in_place-requires-clause-edge_exists g c =
     (glue-edge-there c.args.machine.now c.glue_laws.ensures c.args.tile.now.kind c.args.edge
     c.requires.glue_edge.glue_edge)
 
-pub returns-in_err-back-clause-least : goal.returns-in_err-back-clause-least
-returns-in_err-back-clause-least g c = λ n l h. alone-shallow (tiling_of c.args.machine.now) c.args.frame.now c.args.tile.now c.args.edge n
-    c.requires.glue_edge.glue_edge _ c.copy-across.ensures.seen (c.in_err-back.ensures.least n l h)
-
-pub returns-in_err-back-clause-cause : goal.returns-in_err-back-clause-cause
-returns-in_err-back-clause-cause g c =
-    let t = tiling_of c.args.machine.now in
-    let f = c.args.frame.now in
-    let limit = c.in_err-back.field-0.0 in
-    let seen : address_of c.copy-across.result ≡ address_of c.args.tile.now.addr = c.copy-across.ensures.seen in
-    if_err-is _ c.from_residual.result (DepthLimit limit.addr limit.edge) c.from_residual.ensures.1
-    (record {
-      tile = c.args.tile.now;
-      is_given = the-one c.args.tile.now;
-      its_address = c.in_err-back.ensures.limit.tile ∙ ap (λ a. lifted_at t f a 64) seen;
-      glue_edge = subst (λ e. IsGlueEdge t.rule c.args.tile.now.kind e) (sym c.in_err-back.ensures.limit.edge) c.requires.glue_edge.glue_edge;
-      on_boundary = subst (λ e. IsBoundaryEdge t (lifted_at t f (address_of c.args.tile.now.addr) 64) e) (sym c.in_err-back.ensures.limit.edge)
-          (subst (λ a. IsBoundaryEdge t (lifted_at t f a 64) c.args.edge) seen (c.in_err-back.ensures.limit_exactly.0 refl));
-    })
-
 pub placed_beside-other-requires-clause-given : goal.placed_beside-other-requires-clause-given
 placed_beside-other-requires-clause-given g c =
     given-on c.args.machine.now c.glue_laws.ensures c.args.frame.now c.requires.frame c.args.tile.now
@@ -51,26 +31,6 @@ placed_beside-other-requires-clause-only_tile_across g c =
     subst (λ a. IsOnlyAcross t (lifted_in (whole c.cross_grow_in_place.new.self) a) c.args.edge
     (address_of c.cross_grow_in_place.new.tile) c.in_ok-back.back) c.copy-across.ensures.seen
     c.in_ok-back.ensures.crossed.only_tile_across
-
-pub returns-then-refused-clause-least : goal.returns-then-refused-clause-least
-returns-then-refused-clause-least g c = λ n l h. alone-shallow (tiling_of c.args.machine.now) c.args.frame.now c.args.tile.now c.args.edge n
-    c.requires.glue_edge.glue_edge _ c.copy-across.ensures.seen (c.in_ok-back.ensures.least n l h)
-
-pub returns-then-refused-clause-answered : goal.returns-then-refused-clause-answered
-returns-then-refused-clause-answered g c = λ can.
-    let fine = not-refused c.args.machine.now c.glue_laws.ensures c.args.frame.now c.requires.frame
-    c.args.tile.now c.requires.given c.cross_grow_in_place.new.self c.in_ok-back.ensures.frame c.args.edge
-    c.requires.glue_edge.glue_edge
-    c.placed_beside-other.result c.placed_beside-other.ensures.stands c.in_ok-back.back c.placed_beside-other.ensures.across can in
-    sym fine ∙ sym (c.refused.ensures.in_order c.args.machine.now.order c.placed_beside-other.ensures.stands.in_order) ∙ c.if-refused.true
-
-pub returns-then-refused-clause-cause : goal.returns-then-refused-clause-cause
-returns-then-refused-clause-cause g c =
-    refused-shift c.args.machine.now c.glue_laws.ensures c.args.frame.now c.requires.frame c.args.tile.now
-    c.requires.given c.cross_grow_in_place.new.self c.in_ok-back.ensures.frame c.args.edge
-    c.requires.glue_edge.glue_edge
-    c.placed_beside-other.result c.placed_beside-other.ensures.stands c.in_ok-back.back c.placed_beside-other.ensures.across
-    (sym (c.refused.ensures.in_order c.args.machine.now.order c.placed_beside-other.ensures.stands.in_order) ∙ c.if-refused.true)
 
 pub returns-clause-crossed : goal.returns-clause-crossed
 returns-clause-crossed g c =
@@ -102,18 +62,11 @@ returns-clause-can_be_joined g c =
     settled-joined c.args.machine.now c.glue_laws.ensures c.args.frame.now c.requires.frame c.args.tile.now
     c.requires.given now c.in_ok-back.ensures.frame c.placed_beside-other.result h.0 h.1
 
-pub returns-clause-least : goal.returns-clause-least
-returns-clause-least g c = λ n l h. alone-shallow (tiling_of c.args.machine.now) c.args.frame.now c.args.tile.now c.args.edge n
-    c.requires.glue_edge.glue_edge _ c.copy-across.ensures.seen (c.in_ok-back.ensures.least n l h)
-
 pub cross_grow_in_place-requires-clause-frame : goal.cross_grow_in_place-requires-clause-frame
 cross_grow_in_place-requires-clause-frame g c = grind (arith, common_steps)
 
 pub cross_grow_in_place-requires-clause-of_frame : goal.cross_grow_in_place-requires-clause-of_frame
 cross_grow_in_place-requires-clause-of_frame g c = grind (arith, common_steps)
-
-pub returns-in_err-back-clause-frame : goal.returns-in_err-back-clause-frame
-returns-in_err-back-clause-frame g c = grind (arith, common_steps)
 
 pub returns-in_err-back-clause-crossed : goal.returns-in_err-back-clause-crossed
 returns-in_err-back-clause-crossed g c = grind (arith, common_steps)
@@ -123,9 +76,6 @@ returns-in_err-back-clause-inside g c = grind (arith, common_steps)
 
 pub returns-in_err-back-clause-can_be_joined : goal.returns-in_err-back-clause-can_be_joined
 returns-in_err-back-clause-can_be_joined g c = grind (arith, common_steps)
-
-pub returns-in_err-back-clause-answered : goal.returns-in_err-back-clause-answered
-returns-in_err-back-clause-answered g c = grind (arith, elements)
 
 pub placed_beside-other-requires-clause-frame : goal.placed_beside-other-requires-clause-frame
 placed_beside-other-requires-clause-frame g c = grind (arith, common_steps)
@@ -142,9 +92,6 @@ placed_beside-other-requires-clause-at_depth g c = grind (arith, common_steps)
 pub refused-requires : goal.refused-requires
 refused-requires g c = grind (arith, common_steps)
 
-pub returns-then-refused-clause-frame : goal.returns-then-refused-clause-frame
-returns-then-refused-clause-frame g c = grind (arith, common_steps)
-
 pub returns-then-refused-clause-crossed : goal.returns-then-refused-clause-crossed
 returns-then-refused-clause-crossed g c = grind (arith, common_steps)
 
@@ -154,11 +101,50 @@ returns-then-refused-clause-inside g c = grind (arith, common_steps)
 pub returns-then-refused-clause-can_be_joined : goal.returns-then-refused-clause-can_be_joined
 returns-then-refused-clause-can_be_joined g c = grind (arith, common_steps)
 
-pub returns-clause-frame : goal.returns-clause-frame
-returns-clause-frame g c = grind (arith, common_steps)
+pub returns-in_err-back-clause-ends : goal.returns-in_err-back-clause-ends
+returns-in_err-back-clause-ends g c = record {
+  frame = grind (arith, common_steps);
+  least = λ n l h. alone-shallow (tiling_of c.args.machine.now) c.args.frame.now c.args.tile.now c.args.edge n
+      c.requires.glue_edge.glue_edge _ c.copy-across.ensures.seen (c.in_err-back.ensures.least n l h);
+  answered = grind (arith, elements);
+  cause = let t = tiling_of c.args.machine.now in
+      let f = c.args.frame.now in
+      let limit = c.in_err-back.field-0.0 in
+      let seen : address_of c.copy-across.result ≡ address_of c.args.tile.now.addr = c.copy-across.ensures.seen in
+      if_err-is _ c.from_residual.result (DepthLimit limit.addr limit.edge) c.from_residual.ensures.1
+      (record {
+        tile = c.args.tile.now;
+        is_given = the-one c.args.tile.now;
+        its_address = c.in_err-back.ensures.limit.tile ∙ ap (λ a. lifted_at t f a 64) seen;
+        glue_edge = subst (λ e. IsGlueEdge t.rule c.args.tile.now.kind e) (sym c.in_err-back.ensures.limit.edge) c.requires.glue_edge.glue_edge;
+        on_boundary = subst (λ e. IsBoundaryEdge t (lifted_at t f (address_of c.args.tile.now.addr) 64) e) (sym c.in_err-back.ensures.limit.edge)
+            (subst (λ a. IsBoundaryEdge t (lifted_at t f a 64) c.args.edge) seen (c.in_err-back.ensures.limit_exactly.0 refl));
+      });
+}
 
-pub returns-clause-answered : goal.returns-clause-answered
-returns-clause-answered g c = grind (arith, common_steps)
+pub returns-then-refused-clause-ends : goal.returns-then-refused-clause-ends
+returns-then-refused-clause-ends g c = record {
+  frame = grind (arith, common_steps);
+  least = λ n l h. alone-shallow (tiling_of c.args.machine.now) c.args.frame.now c.args.tile.now c.args.edge n
+      c.requires.glue_edge.glue_edge _ c.copy-across.ensures.seen (c.in_ok-back.ensures.least n l h);
+  answered = λ can.
+      let fine = not-refused c.args.machine.now c.glue_laws.ensures c.args.frame.now c.requires.frame
+      c.args.tile.now c.requires.given c.cross_grow_in_place.new.self c.in_ok-back.ensures.frame c.args.edge
+      c.requires.glue_edge.glue_edge
+      c.placed_beside-other.result c.placed_beside-other.ensures.stands c.in_ok-back.back c.placed_beside-other.ensures.across can in
+      sym fine ∙ sym (c.refused.ensures.in_order c.args.machine.now.order c.placed_beside-other.ensures.stands.in_order) ∙ c.if-refused.true;
+  cause = refused-shift c.args.machine.now c.glue_laws.ensures c.args.frame.now c.requires.frame c.args.tile.now
+      c.requires.given c.cross_grow_in_place.new.self c.in_ok-back.ensures.frame c.args.edge
+      c.requires.glue_edge.glue_edge
+      c.placed_beside-other.result c.placed_beside-other.ensures.stands c.in_ok-back.back c.placed_beside-other.ensures.across
+      (sym (c.refused.ensures.in_order c.args.machine.now.order c.placed_beside-other.ensures.stands.in_order) ∙ c.if-refused.true);
+}
 
-pub returns-clause-cause : goal.returns-clause-cause
-returns-clause-cause g c = grind (arith, common_steps)
+pub returns-clause-ends : goal.returns-clause-ends
+returns-clause-ends g c = record {
+  frame = grind (arith, common_steps);
+  least = λ n l h. alone-shallow (tiling_of c.args.machine.now) c.args.frame.now c.args.tile.now c.args.edge n
+      c.requires.glue_edge.glue_edge _ c.copy-across.ensures.seen (c.in_ok-back.ensures.least n l h);
+  answered = grind (arith, common_steps);
+  cause = grind (arith, common_steps);
+}

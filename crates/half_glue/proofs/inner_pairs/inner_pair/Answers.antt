@@ -12,7 +12,7 @@ use Rattle.half_glue.proofs.inner_pairs.inner_pair.Goals as goal
 pub returns-in-None-clause-inner : goal.returns-in-None-clause-inner
 returns-in-None-clause-inner c = λ f is given.
     let kind = kind-is c.args.tiles.now c.args.number c.requires.below c.kind-kind.result c.kind-kind.ensures in
-    alone-inner c.args.machine.now c.glue_laws.ensures c.args.tiles.now c.args.sides.now c.requires.sides
+    alone-inner c.args.machine.now c.glue_laws.ensures c.args.tiles.now c.args.sides.now c.requires.sought.sides
     c.args.number c.requires.below f is given c.from.result (c.from.ensures ∙ kind) c.in-None.is
     (record { first = c.args.number; second = None }) refl
 
@@ -20,13 +20,13 @@ pub half_among-requires-clause-turn_below : goal.half_among-requires-clause-turn
 half_among-requires-clause-turn_below c =
     subst (λ (v : Motion). v.turn < (points_of c.args.machine.now.order).order)
     (sym (motion-is c.args.tiles.now c.args.number c.requires.below c.motion-motion.result
-    c.motion-motion.ensures)) (c.requires.placed c.args.number no_tile c.requires.below).turn_below
+    c.motion-motion.ensures)) (c.requires.sought.placed c.args.number no_tile c.requires.below).turn_below
 
 pub half_among-requires-clause-within : goal.half_among-requires-clause-within
 half_among-requires-clause-within c =
     subst (λ (v : Motion). IsWithin (2 ^ 24) v.shift)
     (sym (motion-is c.args.tiles.now c.args.number c.requires.below c.motion-motion.result
-    c.motion-motion.ensures)) (c.requires.placed c.args.number no_tile c.requires.below).within
+    c.motion-motion.ensures)) (c.requires.sought.placed c.args.number no_tile c.requires.below).within
 
 pub returns-clause-present : goal.returns-clause-present
 returns-clause-present c =
@@ -43,7 +43,7 @@ returns-clause-inner c = λ f is given.
     let motion = motion-is c.args.tiles.now c.args.number c.requires.below c.motion-motion.result c.motion-motion.ensures in
     let less : c.kind-kind.result < c.in_ok-other.other.kind = ltb-true c.kind-kind.result
     c.in_ok-other.other.kind (sym c.is_less.ensures ∙ c.if-not-is_less.false) in
-    pair-inner m c.glue_laws.ensures c.args.tiles.now c.args.sides.now c.requires.sides c.args.number
+    pair-inner m c.glue_laws.ensures c.args.tiles.now c.args.sides.now c.requires.sought.sides c.args.number
     c.requires.below f is given c.from.result (c.from.ensures ∙ kind) c.in-Some.side c.in-Some.is
     c.in_ok-other.other c.in_ok-other.was (omega (arith, less, kind))
     c.in_ok-second.second (subst (λ (v : Motion). StandsAmong m.order c.in-Some.side.other v c.args.tiles.now
@@ -52,14 +52,14 @@ returns-clause-inner c = λ f is given.
 
 pub bounds-sides-from : goal.bounds-sides-from
 bounds-sides-from c =
-    read-below (tiling_of c.args.machine.now) c.args.sides.now c.requires.sides
-    (given_tile c.args.tiles.now c.args.number) (c.requires.placed c.args.number no_tile c.requires.below)
+    read-below (tiling_of c.args.machine.now) c.args.sides.now c.requires.sought.sides
+    (given_tile c.args.tiles.now c.args.number) (c.requires.sought.placed c.args.number no_tile c.requires.below)
     c.kind-kind.result c.from.result c.from.ensures
     (kind-is c.args.tiles.now c.args.number c.requires.below c.kind-kind.result c.kind-kind.ensures)
 
 pub half_among-requires-clause-other : goal.half_among-requires-clause-other
 half_among-requires-clause-other c =
-    read-other (tiling_of c.args.machine.now) c.args.sides.now c.requires.sides
-    (given_tile c.args.tiles.now c.args.number) (c.requires.placed c.args.number no_tile c.requires.below)
+    read-other (tiling_of c.args.machine.now) c.args.sides.now c.requires.sought.sides
+    (given_tile c.args.tiles.now c.args.number) (c.requires.sought.placed c.args.number no_tile c.requires.below)
     c.kind-kind.result c.from.result c.from.ensures
     (kind-is c.args.tiles.now c.args.number c.requires.below c.kind-kind.result c.kind-kind.ensures) c.in-Some.side c.in-Some.is

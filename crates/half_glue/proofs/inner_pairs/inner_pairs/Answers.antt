@@ -4,7 +4,7 @@ use Rattle.theory_walks.specs.Frames.{FrameValue, IsFrameOf}
 use Rattle.half_glue.specs.declared.pairs.Pair.{Pair}
 use Rattle.half_glue.specs.Given.{AreGiven}
 use Rattle.half_glue.specs.Inner.{IsInnerPair, AreInner, AreRising}
-use Rattle.half_glue.proofs.InnerPairs.{inner-more, rising-more, rising-on}
+use Rattle.half_glue.proofs.TakenTiles.{inner-more, rising-more, rising-on}
 use Rattle.half_glue.proofs.inner_pairs.inner_pairs.Goals.{in-Some+in_ok-push, in_default}
 use Rattle.half_glue.proofs.inner_pairs.inner_pairs.Goals as goal
 

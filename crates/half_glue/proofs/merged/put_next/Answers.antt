@@ -12,7 +12,7 @@ returns-in_ok-extend_from_slice-in-Ok c =
     let outer = c.args.outer.now in
     let sought = order_numbers c.first_of-kind.result.0 c.first_of-kind.result.1 in
     subst (IsMerging (tiles ++ crossed) inner outer (c.in-Ok.same + 1) (c.args.next + 1)) (sym c.in_ok-extend_from_slice-in-Ok.ensures.items)
-    (found-merged tiles crossed inner outer c.requires.in_order c.requires.rising c.requires.outer_in_order
+    (found-merged tiles crossed inner outer c.requires.lists.in_order c.requires.lists.rising c.requires.lists.outer_in_order
     c.args.done c.args.next c.args.pairs.now.items c.requires.merging c.requires.one_more sought
     (numbers-of (tiles ++ crossed) outer c.args.next _ c.requires.one_more c.first_of-kind.result.0
     c.first_of-kind.result.1 c.first_of-kind.ensures.motion c.first_of-kind.ensures.kind)
@@ -25,7 +25,7 @@ returns-in_ok-push-in-Err c =
     let inner = c.args.inner.now in
     let outer = c.args.outer.now in
     let sought = order_numbers c.first_of-kind.result.0 c.first_of-kind.result.1 in
-    pushed-merged tiles crossed inner outer c.requires.in_order c.requires.rising c.requires.outer_in_order
+    pushed-merged tiles crossed inner outer c.requires.lists.in_order c.requires.lists.rising c.requires.lists.outer_in_order
     c.args.done c.args.next c.args.pairs.now.items c.requires.merging c.requires.one_more sought
     (numbers-of (tiles ++ crossed) outer c.args.next _ c.requires.one_more c.first_of-kind.result.0
     c.first_of-kind.result.1 c.first_of-kind.ensures.motion c.first_of-kind.ensures.kind)

@@ -1,4 +1,5 @@
 use Rattle.std.proofs.Common.{◌+◌, All, List, ◌++◌, length, sym, subst, arith, take_all}
+use Rattle.std.proofs.lemmas.Grind.{common_steps}
 use Rattle.std.specs.List.{Contains}
 use Rattle.std.proofs.lemmas.List.{get_or_default}
 use Rattle.rule_model.specs.Tiling.{tiling_of}
@@ -10,6 +11,7 @@ use Rattle.half_glue.specs.Found.{no_tile, given_tile}
 use Rattle.half_glue.specs.Limits.{CanBeJoined}
 use Rattle.half_glue.specs.Pairs.{added_pairs}
 use Rattle.half_glue.proofs.Halves.{given-key}
+use Rattle.theory_walks.proofs.Ancestors.{full-later}
 use Rattle.theory_walks.proofs.Outcomes.{if_err-is}
 use Rattle.half_glue.proofs.SettledTiles.{left-behind, cause-of, one-more}
 use Rattle.half_glue.proofs.Taking.{ArePaired, all-on, paired-on, taken-too, all-paired}
@@ -24,21 +26,17 @@ its-tile g c =
     let below = c.loop-number-test.true in
     (i, below, get_or_default c.args.tiles.now i (given_tile c.args.tiles.now i) no_tile below)
 
-pub sorted_keys-requires-clause-fit : goal.sorted_keys-requires-clause-fit
-sorted_keys-requires-clause-fit g c = λ k d l. given-key c.args.machine.now c.glue_laws.ensures
-    c.args.frame.now c.requires.to_glue.frame _ (c.requires.to_glue.given k d l)
+pub sorted_keys-requires : goal.sorted_keys-requires
+sorted_keys-requires g c = record {
+  few = c.requires.to_glue.few;
+  fit = λ k d l. given-key c.args.machine.now c.glue_laws.ensures
+      c.args.frame.now c.requires.to_glue.frame _ (c.requires.to_glue.given k d l);
+}
 
 pub other_half-requires-clause-given : goal.other_half-requires-clause-given
 other_half-requires-clause-given g c =
     all-on c.args.machine.now c.glue_laws.ensures c.args.frame.now c.loop-number.frame c.requires.to_glue.frame
     c.loop-number.invariant.0.grows c.args.tiles.now c.requires.to_glue.given
-
-pub returns-in_err-found-clause-cause : goal.returns-in_err-found-clause-cause
-returns-in_err-found-clause-cause g c =
-    if_err-is _ c.from_residual-in_err-found.result c.in_err-found.field-0.0 c.from_residual-in_err-found.ensures.1
-    (cause-of (tiling_of c.args.machine.now) c.args.frame.now c.loop-number.frame
-    c.loop-number.invariant.0.grows c.args.tiles.now _ (its-tile g ((goal.at.returns-in_err-found-clause-cause g c).After-other_half))
-    c.other_half.new.frame c.in_err-found.field-0.0 c.in_err-found.ensures.cause)
 
 pub loop-number-preserved : goal.loop-number-preserved
 loop-number-preserved g c =
@@ -53,7 +51,7 @@ loop-number-preserved g c =
     let below = c.loop-number-test.true in
     let x = given_tile tiles i in
     let settled = c.loop-number.invariant.0 in
-    let up = c.in_ok-found.ensures.frame in
+    let up = c.in_ok-found.ensures.ends.frame in
     let all_now = all-on m L old now c.requires.to_glue.frame settled.grows tiles c.requires.to_glue.given in
     let all_after = all-on m L now after settled.grows.is_frame up tiles all_now in
     let paired = paired-on m L now after settled.grows.is_frame up tiles 0 i c.loop-number.made.crossed.items
@@ -61,7 +59,7 @@ loop-number-preserved g c =
     let ps : List Pair = c.loop-number.made.pairs.items ++ added_pairs tiles i (length c.loop-number.made.crossed.items) c.in_ok-found.found in (
       one-more m L old now c.requires.to_glue.frame tiles c.requires.to_glue.given i below x
           (get_or_default tiles i x no_tile below) settled after up c.in_ok-found.ensures.joined.inside
-          c.in_ok-found.ensures.joined.can_be_joined c.in_ok-found.ensures.least,
+          c.in_ok-found.ensures.joined.can_be_joined c.in_ok-found.ensures.ends.least,
       subst (λ (ps : List Pair). ArePaired t after tiles 0 (i + 1) c.put.new.made.crossed.items ps) (sym c.in_ok-put.ensures.pairs)
           (subst (λ (xs : List PlacedTile). ArePaired t after tiles 0 (i + 1) xs ps) (sym c.in_ok-put.ensures.crossed)
           (taken-too t after tiles 0 i below c.loop-number.made.crossed.items c.loop-number.made.pairs.items
@@ -74,32 +72,52 @@ returns-clause-paired g c =
     c.loop-number.made.crossed.items c.loop-number.made.pairs.items
     (omega arith) c.loop-number.auto.number-end (λ l. omega (arith, l, c.loop-number-test.false)) c.loop-number.invariant.1
 
-pub returns-clause-least : goal.returns-clause-least
-returns-clause-least g c = record {
-  inside = subst (All (IsGluedInside (tiling_of c.args.machine.now) c.args.frame.now
-      (length c.loop-number.frame.digits))) (take_all c.loop-number.number c.args.tiles.now
-      c.loop-number-test.false) c.loop-number.invariant.0.inside;
-  least = c.loop-number.invariant.0.least;
+pub returns-in_err-found-clause-ends : goal.returns-in_err-found-clause-ends
+returns-in_err-found-clause-ends g c = record {
+  frame = grind (arith, common_steps);
+  not_beyond = left-behind (tiling_of c.args.machine.now) c.args.frame.now c.loop-number.frame c.loop-number.invariant.0.grows
+      c.args.tiles.now _ (its-tile g ((goal.at.returns-in_err-found-clause-ends g c).After-other_half))
+      c.loop-number.invariant.0.least c.other_half.new.frame c.in_err-found.ensures.ends.least;
+  least = grind (arith, common_steps);
+  within = grind (arith, common_steps);
+  answered = λ can.
+      let t = tiling_of c.args.machine.now in
+      absurd (cc (c.in_err-found.ensures.ends.answered
+      (subst (λ y. CanBeJoined t y (given_tile c.args.tiles.now c.loop-number.number))
+      (sym (full-later t c.args.frame.now c.loop-number.frame c.loop-number.invariant.0.grows))
+      (can c.loop-number.number no_tile c.loop-number-test.true))));
+  cause = if_err-is _ c.from_residual-in_err-found.result c.in_err-found.field-0.0 c.from_residual-in_err-found.ensures.1
+      (cause-of (tiling_of c.args.machine.now) c.args.frame.now c.loop-number.frame
+      c.loop-number.invariant.0.grows c.args.tiles.now _ (its-tile g ((goal.at.returns-in_err-found-clause-ends g c).After-other_half))
+      c.other_half.new.frame c.in_err-found.field-0.0 c.in_err-found.ensures.ends.cause);
 }
 
-pub returns-clause-within : goal.returns-clause-within
-returns-clause-within g c =
-    subst (All (CanBeJoined (tiling_of c.args.machine.now)
-    (full (tiling_of c.args.machine.now) c.args.frame.now)))
-    (take_all c.loop-number.number c.args.tiles.now c.loop-number-test.false)
-    c.loop-number.invariant.0.joined
+pub returns-in_err-put-clause-ends : goal.returns-in_err-put-clause-ends
+returns-in_err-put-clause-ends g c = record {
+  frame = grind (arith, common_steps);
+  not_beyond = left-behind (tiling_of c.args.machine.now) c.args.frame.now c.loop-number.frame c.loop-number.invariant.0.grows
+      c.args.tiles.now _ (its-tile g ((goal.at.returns-in_err-put-clause-ends g c).After-other_half))
+      c.loop-number.invariant.0.least c.other_half.new.frame c.in_ok-found.ensures.ends.least;
+  least = grind (arith, common_steps);
+  within = grind (arith, common_steps);
+  answered = grind (arith, common_steps);
+  cause = grind (arith, common_steps);
+}
 
-pub returns-in_err-found-clause-not_beyond : goal.returns-in_err-found-clause-not_beyond
-returns-in_err-found-clause-not_beyond g c =
-    left-behind (tiling_of c.args.machine.now) c.args.frame.now c.loop-number.frame c.loop-number.invariant.0.grows
-    c.args.tiles.now _ (its-tile g ((goal.at.returns-in_err-found-clause-not_beyond g c).After-other_half))
-    c.loop-number.invariant.0.least c.other_half.new.frame c.in_err-found.ensures.least
-
-pub returns-in_err-put-clause-not_beyond : goal.returns-in_err-put-clause-not_beyond
-returns-in_err-put-clause-not_beyond g c =
-    left-behind (tiling_of c.args.machine.now) c.args.frame.now c.loop-number.frame c.loop-number.invariant.0.grows
-    c.args.tiles.now _ (its-tile g ((goal.at.returns-in_err-put-clause-not_beyond g c).After-other_half))
-    c.loop-number.invariant.0.least c.other_half.new.frame c.in_ok-found.ensures.least
-
-pub returns-clause-not_beyond : goal.returns-clause-not_beyond
-returns-clause-not_beyond g c = c.loop-number.invariant.0.least
+pub returns-clause-ends : goal.returns-clause-ends
+returns-clause-ends g c = record {
+  frame = grind (arith, common_steps);
+  not_beyond = c.loop-number.invariant.0.least;
+  least = record {
+    inside = subst (All (IsGluedInside (tiling_of c.args.machine.now) c.args.frame.now
+        (length c.loop-number.frame.digits))) (take_all c.loop-number.number c.args.tiles.now
+        c.loop-number-test.false) c.loop-number.invariant.0.inside;
+    least = c.loop-number.invariant.0.least;
+  };
+  within = subst (All (CanBeJoined (tiling_of c.args.machine.now)
+      (full (tiling_of c.args.machine.now) c.args.frame.now)))
+      (take_all c.loop-number.number c.args.tiles.now c.loop-number-test.false)
+      c.loop-number.invariant.0.joined;
+  answered = grind (arith, common_steps);
+  cause = grind (arith, common_steps);
+}

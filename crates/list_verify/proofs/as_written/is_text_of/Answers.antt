@@ -1,4 +1,4 @@
-use Rattle.std.proofs.Common.{◌≡◌, ◌++◌, ap, ◌∙◌, arith}
+use Rattle.std.proofs.Common.{◌++◌, ap, ◌∙◌, arith}
 use Rattle.list_verify.proofs.WrittenSoFar.{behind, one_more}
 use Rattle.list_verify.proofs.as_written.is_text_of.Goals as goal
 

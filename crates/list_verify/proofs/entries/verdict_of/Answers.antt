@@ -1,4 +1,4 @@
-use Rattle.std.proofs.Common.{◌≡◌, ◌<◌, length, Ok, sym, subst, arith}
+use Rattle.std.proofs.Common.{length, Ok, sym, subst, arith}
 use Rattle.std.proofs.lemmas.List.{length-map}
 use Rattle.theory_walks.specs.Frames.{FrameValue}
 use Rattle.listing_text.specs.Views.{entry_of}

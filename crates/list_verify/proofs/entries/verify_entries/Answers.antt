@@ -1,6 +1,4 @@
-use Rattle.std.proofs.Common.{◌≡◌, Ok, ap, ◌∙◌, subst}
-use Rattle.std.specs.declared.result.Result.{Result}
-use Rattle.theory_walks.specs.Frames.{FrameValue}
+use Rattle.std.proofs.Common.{Ok, ap, ◌∙◌, subst}
 use Rattle.rule_model.specs.declared.rule.Rule.{Rule}
 use Rattle.rule_model.specs.Tiling.{tiling_of}
 use Rattle.tile_place.proofs.Plane.{IsSettled, its_rule}

@@ -3,12 +3,11 @@ use Rattle.std.proofs.lemmas.Bool.{cases_lt}
 use Rattle.theory_addresses.specs.Address.{Fits}
 use Rattle.tile_shape.specs.Accepted.{IsAcceptedAddress}
 use Rattle.tile_shape.specs.Views.{address_of}
-use Rattle.theory_walks.specs.Frames.{FrameValue}
 use Rattle.listing_text.specs.declared.entry.Entry.{Entry}
 use Rattle.listing_text.specs.Limits.{most_lines}
 use Rattle.listing_text.specs.Lines.{lines_in}
 use Rattle.listing_text.specs.Listing.{listing_in}
-use Rattle.listing_text.specs.Views.{entry_of, OrWantsMemory}
+use Rattle.listing_text.specs.Views.{OrWantsMemory}
 use Rattle.rule_model.specs.declared.rule.Rule.{Rule}
 use Rattle.rule_model.specs.Tiling.{tiling_of, children}
 use Rattle.list_verify.specs.FoundLines.{entries_of}

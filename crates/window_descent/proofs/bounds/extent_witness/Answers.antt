@@ -1,5 +1,5 @@
 use Rattle.std.specs.Int.{w64}
-use Rattle.std.proofs.Common.{arith, ℕ, ℤ, ◌≡◌, ◌^◌, ◌<◌, pos, to_z, of_z, sym, ◌∙◌, ap, subst}
+use Rattle.std.proofs.Common.{arith, ℕ, ℤ, ◌≡◌, ◌^◌, ◌<◌, pos, sym, ◌∙◌, ap, subst}
 use Rattle.std.proofs.lemmas.Int.{ints, to_z-of_z}
 use Rattle.cyclo_points.specs.Point.{Within}
 use Rattle.cyclo_points.specs.Witness.{witness_in}

@@ -15,7 +15,7 @@ pub mul-requires-clause-q_within : goal.mul-requires-clause-q_within
 mul-requires-clause-q_within c = point_wider 64 (2 ^ 16) _ (lit≤ tt) c.child-child.ensures.small.within
 
 pub compose-motion-requires-clause-f_within : goal.compose-motion-requires-clause-f_within
-compose-motion-requires-clause-f_within c = point_wider (2 ^ 24) (2 ^ 38) _ (lit≤ tt) c.requires.at_within
+compose-motion-requires-clause-f_within c = point_wider (2 ^ 24) (2 ^ 38) _ (lit≤ tt) c.requires.parent.within
 
 pub compose-motion-requires-clause-g_within : goal.compose-motion-requires-clause-g_within
 compose-motion-requires-clause-g_within c = point_wider (8 * 2 ^ 24 * 64) (2 ^ 38) _ (lit≤ tt)
@@ -27,8 +27,8 @@ returns c =
     let o = c.order-order.result in
     let same : o ≡ m.order = c.order-order.ensures.order ∙ ap (λ (r : Rule). r.order) c.checked-checked.ensures.rule in
     let part = part_is o c.checked-checked.result.now m c.order-order.ensures.order
-    c.checked-checked.ensures.rule c.child-child.result c.args.scale.now c.args.at.now c.mul.result
-    c.compose-motion.result c.args.kind c.args.number
+    c.checked-checked.ensures.rule c.child-child.result c.args.scale.now c.args.parent.now.motion c.mul.result
+    c.compose-motion.result c.args.parent.now.kind c.args.number
     c.child-child.ensures.number c.mul.ensures.product c.compose-motion.ensures.followed_by in
     record {
       part = record {
@@ -40,7 +40,7 @@ returns c =
           turn_below = subst (λ q. c.compose-motion.result.turn < (points_of q).order) same c.compose-motion.ensures.turn_below;
           within = c.refused.ensures.within c.if-refused.false;
           in_order = subst (λ q. IsOf q c.compose-motion.result.shift) same
-              (c.compose-motion.ensures.in_order (subst (λ q. IsOf q c.args.at.now.shift) (sym same) c.requires.at_in_order));
+              (c.compose-motion.ensures.in_order (subst (λ q. IsOf q c.args.parent.now.motion.shift) (sym same) c.requires.parent.in_order));
         };
       };
     }

@@ -42,7 +42,7 @@ returns-clause-placed c =
     let scale_is = power-read m.order (rule_of m).factor (levels_of rows) rows.powers.items level
     (record { c = [] }) c.requires.rows.powers c.requires.level_exists in
     decided c.unless_open.result c.beside.result level (IsPlacedBy (tiling_of m) w level p) c.unless_open.ensures.same c.unless_open.ensures.across
-    (λ s is known. placed-between m settled w level p c.requires.part c.requires.some_width
-    c.requires.some_height (scale_of rows level) scale_is bounds limits
+    (λ s is known. placed-between m settled w level p c.requires.part c.requires.window.some_width
+    c.requires.window.some_height (scale_of rows level) scale_is bounds limits
     c.in_ok-bounds.ensures.bounds (subst (λ q. AreLimits q w p.motion.shift limits) same c.in_ok-limits.ensures) s
     (subst (LiesBetween bounds limits) (sym is) c.beside.ensures) known)

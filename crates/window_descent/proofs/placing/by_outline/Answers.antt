@@ -23,8 +23,8 @@ returns-then-level-eq0 c =
     } in
     record {
       placed = subst (IsPlacedBy (tiling_of m) w c.args.level c.args.part.now) (sym c.met.ensures)
-          (placed-met m settled o same w c.args.level c.args.part.now c.requires.part c.requires.some_width
-          c.requires.some_height c.in-Ok.corners.items c.args.scale.now c.requires.scale_is
+          (placed-met m settled o same w c.args.level c.args.part.now c.requires.part c.requires.window.some_width
+          c.requires.window.some_height c.in-Ok.corners.items c.args.scale.now c.requires.scale_is
           c.in-Ok.ensures.vertices
           c.meets.result c.if-level-eq0.true (c.meets.ensures ∙ ap (λ (ps : List Point). polygon_meets (reals_of o) (window_box o w)
           (spots_of o ps)) c.as_slice.ensures.value));
@@ -45,7 +45,7 @@ returns-else-level-eq0 c =
     let some : 0 < c.args.level = omega arith in
     record {
       placed = placed-beside m settled o same w c.args.level c.args.part.now c.requires.part
-          c.requires.some_width c.requires.some_height c.in-Ok.corners.items c.args.scale.now
+          c.requires.window.some_width c.requires.window.some_height c.in-Ok.corners.items c.args.scale.now
           c.requires.scale_is c.in-Ok.ensures.vertices
           c.beside.result (subst (λ
           (ps : List Point). IsStanding o w ps c.beside.result) c.as_slice-else-level-eq0.ensures.value c.beside.ensures) some;

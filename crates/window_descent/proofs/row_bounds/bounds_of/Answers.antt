@@ -23,6 +23,6 @@ returns-in-Ok c =
     let o = c.order.result in
     let same : o ≡ m.order = c.order.ensures.order ∙ ap (λ (r : Rule). r.order) c.checked.ensures.rule in
     if_some-each (λ (b : Bounds). AllByRecursion (λ p. IsEnclosed o b (spot_of o p)) c.as_slice.result.now)
-    (AreBounds m c.args.scale.now c.args.kind c.args.turn)
-    (λ b h. bounds-read m o same c.args.scale.now c.args.kind c.args.turn c.in-Ok.corners.items c.in-Ok.ensures.vertices b
+    (AreBounds m c.args.scale.now c.args.row.kind c.args.row.turn)
+    (λ b h. bounds-read m o same c.args.scale.now c.args.row.kind c.args.row.turn c.in-Ok.corners.items c.in-Ok.ensures.vertices b
     (subst (λ (ps : List Point). AllByRecursion (λ p. IsEnclosed o b (spot_of o p)) ps) c.as_slice.ensures.value h)) c.of.result c.of.ensures

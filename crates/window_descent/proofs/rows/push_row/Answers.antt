@@ -17,8 +17,9 @@ loop-number-preserved c =
     record {
       longer = subst (IsLonger before) (sym pushed) (longer-more before now p inv.longer);
       count_is = inv.count_is;
-      so_far = ap length pushed ∙ count-more m c.args.kind c.args.turn c.args.scale.now before now i inv.so_far p c.in-Some.ensures.part inv.each;
-      each = λ k h. subst (λ (ps : List Part). IsPartAt m c.args.kind k c.args.scale.now (only_turned c.args.turn)
+      so_far = ap length pushed
+          ∙ count-more m c.args.row.kind c.args.row.turn c.args.scale.now before now i inv.so_far p c.in-Some.ensures.part inv.each;
+      each = λ k h. subst (λ (ps : List Part). IsPartAt m c.args.row.kind k c.args.scale.now (only_turned c.args.row.turn)
           (get_or ps (length before + k) no_part)) (sym pushed)
-          (each-more m c.args.kind c.args.turn c.args.scale.now before now i inv.so_far p c.in-Some.ensures.part inv.each k h);
+          (each-more m c.args.row.kind c.args.row.turn c.args.scale.now before now i inv.so_far p c.in-Some.ensures.part inv.each k h);
     }

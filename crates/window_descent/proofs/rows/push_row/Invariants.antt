@@ -8,8 +8,8 @@ use Rattle.window_descent.proofs.rows.push_row.Given as goal
 abbrev pub invariant-loop-number : goal.invariant-loop-number
 invariant-loop-number l = record {
   longer : IsLonger l.fn.children.items l.children.items;
-  count_is : l.count ≡ length (children_of (rule_of l.machine) l.kind);
+  count_is : l.count ≡ length (children_of (rule_of l.machine) l.fn.row.kind);
   so_far : length l.children.items ≡ length l.fn.children.items + l.number;
-  each : (i : ℕ) → i < l.number → IsPartAt l.machine l.kind i l.scale (only_turned l.turn) (get_or l.children.items
+  each : (i : ℕ) → i < l.number → IsPartAt l.machine l.fn.row.kind i l.scale (only_turned l.fn.row.turn) (get_or l.children.items
       (length l.fn.children.items + i) no_part);
 }

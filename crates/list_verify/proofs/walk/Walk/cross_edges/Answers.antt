@@ -109,7 +109,7 @@ loop-edge-preserved g c =
           c.args.line c.requires.line_found _ c.index-self-line.result refl c.put_corners.new.corners.items
           c.put_corners.ensures.corners c.put_corners.ensures.at_most_12
           c.loop-edge.frame c.loop-edge.found c.loop-edge.invariant.0 c.loop-edge.edge
-          within w.cross_edge.new.frame w.cross_edge.new.found w.in-Ok.ensures.goes_on c.loop-edge.invariant.1
+          within w.cross_edge.new.frame w.cross_edge.new.found w.in-Ok.ensures.step.goes_on c.loop-edge.invariant.1
           w.in-Ok.ensures.crossed))
       | else-is_left w ↦ subst (λ (k : FrameValue). HasCrossed c.args.self.now c.args.frame.now k
           c.args.found.now c.if-is_left.found c.args.line (c.loop-edge.edge + 1)) (sym w.frame-is)
@@ -123,14 +123,6 @@ loop-edge-preserved g c =
           (c.is_left.ensures.over w.if-is_left.false)))
     ]
 
-pub returns-in-Err-clause-fault : goal.returns-in-Err-clause-fault
-returns-in-Err-clause-fault g c =
-    stopped c.args.self.now c.args.frame.now c.loop-edge.frame c.args.found.now c.loop-edge.found c.loop-edge.invariant.0
-    c.cross_edge.new.frame c.in-Err.fault c.in-Err.ensures.fault
-
-pub returns-clause-goes_on : goal.returns-clause-goes_on
-returns-clause-goes_on g c = c.loop-edge.invariant.0
-
 pub returns-clause-crossed : goal.returns-clause-crossed
 returns-clause-crossed g c =
     let over = c.loop-edge-test.false in
@@ -139,3 +131,16 @@ returns-clause-crossed g c =
     (each.many c.args.self.now c.walk_laws.ensures c.args.frame.now c.args.found.now c.requires.under_way
     c.args.line c.requires.line_found _ c.index-self-line.result refl c.put_corners.new.corners.items c.put_corners.ensures.corners)
     (λ e l. c.loop-edge.invariant.1 e (omega (arith, l, over)))
+
+pub returns-in-Err-clause-step : goal.returns-in-Err-clause-step
+returns-in-Err-clause-step g c = record {
+  goes_on = tt;
+  fault = stopped c.args.self.now c.args.frame.now c.loop-edge.frame c.args.found.now c.loop-edge.found c.loop-edge.invariant.0
+      c.cross_edge.new.frame c.in-Err.fault c.in-Err.ensures.step.fault;
+}
+
+pub returns-clause-step : goal.returns-clause-step
+returns-clause-step g c = record {
+  goes_on = c.loop-edge.invariant.0;
+  fault = tt;
+}

@@ -1,5 +1,5 @@
 use Rattle.std.specs.Int.{w64}
-use Rattle.std.proofs.Common.{arith, ℤ, ◌≡◌, ◌^◌, pos, neg_ℤ, ◌+ℤ◌, ◌-ℤ◌, FitsSigned, to_z, of_z, ap, ap₂, ◌∙◌}
+use Rattle.std.proofs.Common.{arith, ℤ, ◌≡◌, ◌^◌, pos, neg_ℤ, ◌+ℤ◌, ◌-ℤ◌, FitsSigned, to_z, of_z, ap₂, ◌∙◌}
 use Rattle.std.proofs.lemmas.Int.{ints}
 use Rattle.cyclo_points.specs.Point.{Within}
 use Rattle.cyclo_points.specs.Real.{real_in}

@@ -12,12 +12,13 @@ returns-in-Some-clause-bounds c =
     let rows = c.args.self.now in
     let kinds = c.checked-usable.ensures.usable.numbered.at_most_16_kinds in
     let turns = order-fits m.order in
-    let there : row_place c.args.level c.args.kind c.args.turn < length rows.bounds.items =
-    place-there (levels_of rows) c.args.level c.args.kind c.args.turn _ c.requires.level_exists
-    (omega (arith, kinds, c.requires.kind_exists)) (omega (arith, turns, c.requires.turn_below)) c.requires.rows.bounds_room in
+    let there : row_place c.args.row.level c.args.row.kind c.args.row.turn < length rows.bounds.items =
+    place-there (levels_of rows) c.args.row.level c.args.row.kind c.args.row.turn _ c.requires.row.level_exists
+    (omega (arith, kinds, c.requires.row.turned.kind_exists)) (omega (arith, turns, c.requires.row.turned.turn_below)) c.requires.rows.bounds_room in
     let place = c.place.ensures in
     let read = get_or_read_under rows.bounds.items c.place.result (length rows.bounds.items) c.index.result.now None c.index.ensures
     (omega (arith, there, place)) refl in
-    subst (λ x. IfSome x (AreBounds m (scale_of rows c.args.level) c.args.kind c.args.turn))
+    subst (λ x. IfSome x (AreBounds m (scale_of rows c.args.row.level) c.args.row.kind c.args.row.turn))
     (ap (λ p. get_or rows.bounds.items p None) (sym place) ∙ sym read ∙ c.in-Some.is)
-    (c.requires.rows.bounded c.args.level c.args.kind c.args.turn c.requires.level_exists c.requires.kind_exists c.requires.turn_below)
+    (c.requires.rows.bounded c.args.row.level c.args.row.kind c.args.row.turn c.requires.row.level_exists
+    c.requires.row.turned.kind_exists c.requires.row.turned.turn_below)

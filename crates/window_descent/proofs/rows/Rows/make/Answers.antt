@@ -13,9 +13,9 @@ index_mut-requires c =
     let held = c.args.self.now.firsts.ok in
     let kinds = c.checked-usable.ensures.usable.numbered.at_most_16_kinds in
     let turns = order-fits c.args.machine.now.order in
-    let there : row_place c.args.level c.args.kind c.args.turn < length c.args.self.now.firsts.items =
-    place-there (levels_of c.args.self.now) c.args.level c.args.kind c.args.turn _ c.requires.level_exists
-    (omega (arith, kinds, c.requires.kind_exists)) (omega (arith, turns, c.requires.turn_below)) rows.room in
+    let there : row_place c.args.row.level c.args.row.kind c.args.row.turn < length c.args.self.now.firsts.items =
+    place-there (levels_of c.args.self.now) c.args.row.level c.args.row.kind c.args.row.turn _ c.requires.row.level_exists
+    (omega (arith, kinds, c.requires.row.turned.kind_exists)) (omega (arith, turns, c.requires.row.turned.turn_below)) rows.room in
     let place = c.place.ensures in
     omega (arith, held, there, place)
 
@@ -28,12 +28,12 @@ returns-clause-rows c =
     let turns = order-fits m.order in
     let powers : List Point = c.args.self.now.powers.items in
     let children : List Part = c.push_row.new.children.items in
-    let level = c.args.level in
-    let kind = c.args.kind in
-    let turn = c.args.turn in
+    let level = c.args.row.level in
+    let kind = c.args.row.kind in
+    let turn = c.args.row.turn in
     let there : row_place level kind turn < length c.args.self.now.firsts.items =
-    place-there (levels_of c.args.self.now) level kind turn _ c.requires.level_exists (omega (arith, kinds, c.requires.kind_exists))
-    (omega (arith, turns, c.requires.turn_below)) rows.room in
+    place-there (levels_of c.args.self.now) level kind turn _ c.requires.row.level_exists (omega (arith, kinds, c.requires.row.turned.kind_exists))
+    (omega (arith, turns, c.requires.row.turned.turn_below)) rows.room in
     let first : c.in-Ok.first ≡ length c.args.self.now.children.items = omega (arith, held, c.in-Ok.ensures, c.len.ensures) in
     let row : IsChildRow m (get_or powers level (record { c = [] })) kind turn children c.in-Ok.first =
     subst (λ (ps : List Point). IsChildRow m (get_or ps level (record { c = [] })) kind turn children c.in-Ok.first) c.as_slice.ensures.value
@@ -44,7 +44,8 @@ returns-clause-rows c =
       room = length-set c.args.self.now.firsts.items c.place.result (Some c.in-Ok.first) ∙ rows.room;
       made = subst (λ place. AreMade m powers (set c.args.self.now.firsts.items place (Some c.in-Ok.first)) children) (sym c.place.ensures)
           (noted-more m kinds turns (length powers) (λ (l k t : ℕ). IsChildRow m (get_or powers l (record { c = [] })) k t children)
-          c.args.self.now.firsts.items level kind turn (Some c.in-Ok.first) c.requires.kind_exists c.requires.turn_below there row
+          c.args.self.now.firsts.items level kind turn (Some c.in-Ok.first)
+          c.requires.row.turned.kind_exists c.requires.row.turned.turn_below there row
           (made-longer m powers c.args.self.now.firsts.items c.args.self.now.children.items children c.push_row.ensures.longer rows.made));
       bounds_room = rows.bounds_room;
       bounded = rows.bounded;

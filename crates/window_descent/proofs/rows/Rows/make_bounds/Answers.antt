@@ -14,13 +14,13 @@ returns-clause-rows c =
     let rows = c.requires.rows in
     let kinds = c.checked-usable.ensures.usable.numbered.at_most_16_kinds in
     let turns = order-fits m.order in
-    let level = c.args.level in
-    let kind = c.args.kind in
-    let turn = c.args.turn in
+    let level = c.args.row.level in
+    let kind = c.args.row.kind in
+    let turn = c.args.row.turn in
     let made = c.bounds_of-made.result in
     let there : row_place level kind turn < length before.bounds.items =
-    place-there (levels_of before) level kind turn _ c.requires.level_exists (omega (arith, kinds, c.requires.kind_exists))
-    (omega (arith, turns, c.requires.turn_below)) rows.bounds_room in
+    place-there (levels_of before) level kind turn _ c.requires.row.level_exists (omega (arith, kinds, c.requires.row.turned.kind_exists))
+    (omega (arith, turns, c.requires.row.turned.turn_below)) rows.bounds_room in
     let own : IfSome made (AreBounds m (scale_of before level) kind turn) =
     subst (λ (ps : List Point). IfSome made (AreBounds m (get_or ps level (record { c = [] })) kind turn))
     c.as_slice.ensures.value c.bounds_of-made.ensures in
@@ -34,5 +34,5 @@ returns-clause-rows c =
           (λ (l k t : ℕ). AreBounds m (scale_of before l) k t) (set before.bounds.items place made))
           (sym c.place.ensures)
           (noted-more m kinds turns (levels_of before) (λ (l k t : ℕ). AreBounds m (scale_of before l) k t) before.bounds.items level kind turn made
-          c.requires.kind_exists c.requires.turn_below there own rows.bounded);
+          c.requires.row.turned.kind_exists c.requires.row.turned.turn_below there own rows.bounded);
     }
