@@ -42,8 +42,8 @@ CALLS = {
     "refuse_memory.py": None,
     "uninstall.sh": None,
 }
-# scripts of packaging/ that make the page and the module, which have their own checks; and the package's own svg.py
-LEFT_OUT = {"make_page.py", "make_wasm.sh", "svg.py"}
+# scripts of packaging/ that make the page and the module, which have their own checks
+LEFT_OUT = {"make_page.py", "make_wasm.sh"}
 PLACES = {
     name: os.path.join(place, name)
     for place in FOLDERS
@@ -56,7 +56,7 @@ wrong, tried = [], 0
 def stand_in(folder):
     """A copy of what the scripts read and write, with a list of tiles and a picture for those that read
     one."""
-    for name in ("checks", "docs", "rules", *FOLDERS):
+    for name in ("checks", "docs", "rules", "python", *FOLDERS):
         shutil.copytree(os.path.join(TOP, name), os.path.join(folder, name))
     shutil.copy(os.path.join(TOP, "check"), os.path.join(folder, "check"))
     with open(os.path.join(folder, "LINES"), "w", encoding="utf-8") as file:

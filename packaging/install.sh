@@ -134,11 +134,12 @@ fi
 put_all python/pagnetuf "$packages/pagnetuf"
 put_all rules share/tiling/rules
 for name in cures.sh words.awk paint.py corners.py draw_rule.py draw_patch.py draw_page.py page.html command_line.py rule_file.py \
-    svg.py toml_document.py older_toml.py; do
+    toml_document.py older_toml.py; do
     mode=644
     [ ! -x "$top/tools/$name" ] || mode=755
     put $mode "$top/tools/$name" "share/tiling/tools/$name"
 done
+put 644 "$top/python/pagnetuf/svg.py" share/tiling/tools/svg.py
 put 755 "$top/packaging/uninstall.sh" share/tiling/tools/uninstall.sh
 put 644 "$top/README.md" share/doc/tiling/README.md
 put_all docs share/doc/tiling/docs

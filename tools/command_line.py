@@ -5,6 +5,9 @@ import argparse
 import os
 import sys
 
+# svg.py, which needs no numpy, is the package's; an installed script has it beside it
+sys.path.append(os.path.join(os.path.dirname(os.path.abspath(__file__)), "..", "python", "pagnetuf"))
+
 
 class Trouble(Exception):
     """Why a script can't do what it was told to, in a sentence."""

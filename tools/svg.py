@@ -1,1 +1,0 @@
-../python/pagnetuf/svg.py
