@@ -15,7 +15,7 @@ use Rattle.list_verify.specs.declared.list_fault.ListFault.TheVariants.{Missing,
 use Rattle.list_verify.specs.LineIndex.{HasAddress}
 
 -- each line has its mark, and the lines are not too many
-pub record HasRoom (lines : List Entry) (found : FoundLines) : Type 0 where
+pub record HasMarks (lines : List Entry) (found : FoundLines) : Type 0 where
   pub few : length lines < 2 ^ 32
   pub count : length found.marks.items ≡ length lines
 

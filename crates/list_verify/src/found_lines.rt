@@ -5,7 +5,7 @@ ghost use Rattle.rule_model.specs.Tiling.{Tiling};
 ghost use Rattle.listing_text.specs.declared.entry.Entry.{Entry as Line};
 ghost use Rattle.list_verify.specs.declared.list_fault.ListFault.TheVariants.{WrongPlace};
 ghost use Rattle.list_verify.specs.Faults.{OrNoRoom};
-ghost use Rattle.list_verify.specs.LookedUp.{HasRoom, KeepsRoom, IsLookedUp, IsNotFound, IsMovedOtherwise};
+ghost use Rattle.list_verify.specs.LookedUp.{HasMarks, KeepsRoom, IsLookedUp, IsNotFound, IsMovedOtherwise};
 ghost use Rattle.list_verify.specs.LineIndex.{Indexes};
 ghost use Rattle.list_verify.specs.Walk.{HasNone};
 ghost use Rattle.list_verify.specs.Walked.{IsFirstUnmarked};
@@ -50,7 +50,7 @@ impl FoundLines {
         tile: &PlacedTile,
     ) -> Result<u32, ListFault>
         requires index { Indexes index.now lines.now (length lines.now) }
-        requires room { HasRoom lines.now self.old }
+        requires room { HasMarks lines.now self.old }
         ensures room { KeepsRoom lines.now self.old self.new }
         ensures looked_up { IfOk result (λ line. IsLookedUp self.old self.new lines.now tile.now line) }
         ensures fault { (t : Tiling) → IsOf t.order tile.now.motion.shift
@@ -94,7 +94,7 @@ impl FoundLines {
     /// Marks the line of a tile, if it has the tile's motion.
     fn mark(&mut self, lines: &[Entry], line: u32, tile: &PlacedTile) -> Result<u32, ListFault>
         requires below { line < length lines.now }
-        requires room { HasRoom lines.now self.old }
+        requires room { HasMarks lines.now self.old }
         ensures room { KeepsRoom lines.now self.old self.new }
         ensures same { IfOk result (λ number. number ≡ line) }
         ensures lines { OnOk result (self.new.lines.items ≡ self.old.lines.items ++ line ∷ []) }
