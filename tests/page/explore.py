@@ -142,7 +142,7 @@ class Page:
     def js(self, text):
         return self.browser.js(text)
 
-    def wait(self, text, seconds=20):
+    def wait(self, text, seconds=90):
         """Waits until an expression is true."""
         end = time.time() + seconds
         while time.time() < end:
