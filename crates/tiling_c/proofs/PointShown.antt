@@ -81,9 +81,9 @@ module _ (t : Tiling) (frame : PlainFrame) (p : PlainPoint) (numbers : PlainTile
   }
   shows_no_holder status (inr (inr x)) =
       let is = x.is_status in record {
-    holds = λ e. absurd (cc (sym is ∙ e));
-    found = λ _ _. (λ e. absurd (cc (sym is ∙ e)), λ none. absurd (x.refused none));
-    not_asked = (λ e. absurd (cc (sym is ∙ e)), λ far. absurd (far x.near));
-    names_none = (λ e. absurd (cc (sym is ∙ e)), λ w. absurd (w.1 x.named));
-    statuses = inr (inr (inr is));
-  }
+        holds = λ e. absurd (cc (sym is ∙ e));
+        found = λ _ _. (λ e. absurd (cc (sym is ∙ e)), λ none. absurd (x.refused none));
+        not_asked = (λ e. absurd (cc (sym is ∙ e)), λ far. absurd (far x.near));
+        names_none = (λ e. absurd (cc (sym is ∙ e)), λ w. absurd (w.1 x.named));
+        statuses = inr (inr (inr is));
+      }

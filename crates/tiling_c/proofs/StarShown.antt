@@ -1,8 +1,7 @@
 -- What a star is shown as, and what each refusal is.
-use Rattle.std.proofs.Common.{◌≡◌, ◌⊎◌, ◌<◌, ◌≤◌, inl, inr, ℕ, List, refl, sym, ◌∙◌}
+use Rattle.std.proofs.Common.{◌≡◌, ◌⊎◌, inl, inr, ℕ, List, refl, sym, ◌∙◌, arith}
 use Rattle.rule_model.specs.Tiling.{Tiling}
 use Rattle.star_walk.specs.declared.corner.Corner.{Corner}
-use Rattle.tile_place.specs.Crossed.{edges_of}
 use Rattle.c_values.specs.declared.plain_frame.PlainFrame.{PlainFrame}
 use Rattle.c_values.specs.declared.plain_vertex_star.PlainVertexStar.{PlainVertexStar}
 use Rattle.c_values.specs.Statuses.{ok, bad_address, no_vertex, depth_limit, star_too_big}
@@ -32,8 +31,8 @@ module _ (t : Tiling) (frame : PlainFrame) (vertex : ℕ) (old : PlainVertexStar
   not_named status is (inr e) = absurd (cc (sym is ∙ e))
 
   no_such : (status : ℕ) → status ≡ no_vertex → (status ≡ depth_limit) ⊎ (status ≡ star_too_big) → ⊥
-  no_such status is (inl e) = absurd (cc (sym is ∙ e))
-  no_such status is (inr e) = absurd (cc (sym is ∙ e))
+  no_such status is (inl e) = absurd (omega (arith, is, e))
+  no_such status is (inr e) = absurd (omega (arith, is, e))
 
   last_two : (status : ℕ) → (status ≡ depth_limit) ⊎ (status ≡ star_too_big)
       → (status ≡ ok) ⊎ (status ≡ bad_address) ⊎ (status ≡ no_vertex) ⊎ (status ≡ depth_limit) ⊎ (status ≡ star_too_big)
@@ -60,11 +59,11 @@ module _ (t : Tiling) (frame : PlainFrame) (vertex : ℕ) (old : PlainVertexStar
   }
   shows_refusal status (inr (inr x)) =
       let ended = x.stopped.ended in record {
-    star = λ e. absurd (turn_not_ok ended.fault status ended.is_status e);
-    within = λ e. absurd (turn_not_ok ended.fault status ended.is_status e);
-    answered = λ _ _ within. absurd (x.stopped.beyond within);
-    names_none = (λ e. absurd (turn_not_address ended.fault status ended.is_status e), λ none. absurd (none x.named));
-    lacks_vertex = (λ e. absurd (turn_not_vertex ended.fault status ended.is_status e), λ w. not_both vertex _ x.exists w.1);
-    ended = λ _. ended;
-    statuses = last_two status (turn_status ended.fault status ended.is_status);
-  }
+        star = λ e. absurd (turn_not_ok ended.fault status ended.is_status e);
+        within = λ e. absurd (turn_not_ok ended.fault status ended.is_status e);
+        answered = λ _ _ within. absurd (x.stopped.beyond within);
+        names_none = (λ e. absurd (turn_not_address ended.fault status ended.is_status e), λ none. absurd (none x.named));
+        lacks_vertex = (λ e. absurd (turn_not_vertex ended.fault status ended.is_status e), λ w. not_both vertex _ x.exists w.1);
+        ended = λ _. ended;
+        statuses = last_two status (turn_status ended.fault status ended.is_status);
+      }

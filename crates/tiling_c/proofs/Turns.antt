@@ -1,5 +1,5 @@
 -- The statuses of a turn round a vertex.
-use Rattle.std.proofs.Common.{◌≡◌, ◌⊎◌, inl, inr, ℕ, sym, ◌∙◌}
+use Rattle.std.proofs.Common.{◌≡◌, ◌⊎◌, inl, inr, ℕ, sym, ◌∙◌, arith}
 use Rattle.star_walk.specs.declared.star_fault.StarFault.{StarFault}
 use Rattle.star_walk.specs.declared.star_fault.StarFault.TheVariants.{DepthLimit, TooBig}
 use Rattle.c_values.specs.Statuses.{ok, bad_address, depth_limit, no_vertex, star_too_big}
@@ -16,8 +16,8 @@ turn_not_address (DepthLimit addr edge) status is e = absurd (cc (sym is ∙ e))
 turn_not_address TooBig status is e = absurd (cc (sym is ∙ e))
 
 pub turn_not_vertex : (fault : StarFault) (status : ℕ) → status ≡ code_of_star fault → ¬ status ≡ no_vertex
-turn_not_vertex (DepthLimit addr edge) status is e = absurd (cc (sym is ∙ e))
-turn_not_vertex TooBig status is e = absurd (cc (sym is ∙ e))
+turn_not_vertex (DepthLimit addr edge) status is e = absurd (omega (arith, is, e))
+turn_not_vertex TooBig status is e = absurd (omega (arith, is, e))
 
 -- a fault has one of two statuses
 pub turn_status : (fault : StarFault) (status : ℕ) → status ≡ code_of_star fault → (status ≡ depth_limit) ⊎ (status ≡ star_too_big)

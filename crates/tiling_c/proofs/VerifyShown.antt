@@ -1,5 +1,5 @@
 -- What arrays that are right are shown as, and what each refusal is.
-use Rattle.std.proofs.Common.{◌≡◌, ◌⊎◌, ◌≤◌, ◌-◌, inl, inr, ℕ, List, length, Ok, Err, refl, sym, ap, subst, ◌∙◌}
+use Rattle.std.proofs.Common.{◌≡◌, ◌≤◌, ◌-◌, inl, inr, ℕ, List, length, Ok, Err, refl, sym, subst, ◌∙◌}
 use Rattle.std.specs.Prelude.{Result, IfOk, IfErr}
 use Rattle.theory_walks.specs.Frames.{FrameValue}
 use Rattle.plane_geom.specs.declared.window.Window.{Window}
@@ -20,7 +20,7 @@ use Rattle.c_values.specs.Statuses.{ok, bad_words, bad_listing}
 use Rattle.c_values.specs.Windows.{window_in}
 use Rattle.tiling_c.specs.declared.verify.Refusal.{Refusal}
 use Rattle.tiling_c.specs.FramedWindow.{GiveFramedWindow, RefusesFramedWindow}
-use Rattle.tiling_c.specs.Verify.{AreEntries, AsksToVerify, AreTilesOf, IsFirstNoEntry, RefusesEntries, ShowsVerify, entries_given, fault_of, line_told, status_told}
+use Rattle.tiling_c.specs.Verify.{AreEntries, AsksToVerify, IsFirstNoEntry, RefusesEntries, ShowsVerify, entries_given, fault_of, line_told, status_told}
 use Rattle.tiling_c.proofs.Moved.{given_moved}
 use Rattle.tiling_c.proofs.Verified.{are_tiles, are_right, fault_not_ok, fault_not_words, fault_not_address, no_room, some_fault}
 
@@ -48,12 +48,12 @@ module _ (t : Tiling) (frame : PlainFrame) (window : PlainWindow) (tiles : List 
     }
     shows_none status (inr (is, given, none)) =
         let asks : AsksToVerify window tiles addrs = record { window_given = given; same_length = lengths.0; few = lengths.1 } in record {
-      right = λ e. absurd (cc (sym is ∙ e));
-      complete = λ _ named _. absurd (none named);
-      not_asked = (λ e. absurd (cc (sym is ∙ e)), λ asks_not. absurd (asks_not asks));
-      names_none = (λ _. (asks, none), λ _. is);
-      wrong = λ _ _ not_address _. absurd (not_address is);
-    }
+          right = λ e. absurd (cc (sym is ∙ e));
+          complete = λ _ named _. absurd (none named);
+          not_asked = (λ e. absurd (cc (sym is ∙ e)), λ asks_not. absurd (asks_not asks));
+          names_none = (λ _. (asks, none), λ _. is);
+          wrong = λ _ _ not_address _. absurd (not_address is);
+        }
 
     module _ (f : FrameValue) (w : Window) (given : GiveFramedWindow t frame window f w) where
       asked : AsksToVerify window tiles addrs

@@ -63,7 +63,6 @@ pub record ShowsAt (t : Tiling) (frame : PlainFrame) (p : PlainPoint) (numbers :
   -- in the plane: this is the only tile of the frame that holds the point, at the least depth at which the
   -- frame holds it
   pub holds : status ≡ ok → ShowsHolder t (frame_in frame) (number_given t p) numbers addr
-
   -- Each refusal comes only for its cause. `coord_limit` comes exactly if a value on the way is refused.
   pub found : NamesTile t frame.base → IsNearby p.c
       → (status ≡ ok) ↔ (first_refused_outward t (frame_in frame) (number_given t p) ≡ None)

@@ -112,7 +112,6 @@ pub record ShowsCover (t : Tiling) (frame : PlainFrame) (window : PlainWindow)
   -- least that is enough, and the tiles cover the window.
   pub covers : status ≡ ok → IsCover t (frame_in frame) (window_in t.order window) tiles new_tiles addrs
       new_addrs count
-
   -- The call succeeds exactly within the limits, unless memory runs out, and each refusal comes only for its
   -- cause.
   pub within : status ≡ ok → IsCoverWithinLimits t (frame_in frame) (window_in t.order window)

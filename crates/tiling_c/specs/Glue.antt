@@ -152,7 +152,6 @@ pub record ShowsGlue (t : Tiling) (frame : PlainFrame) (window : PlainWindow)
   -- Exactly the whole tiles of the tiles that meet the window, each exactly once, in its place and in order.
   -- The depth is the least that is enough, and the whole tiles cover the window.
   pub wholes : status ≡ ok → ShowsWholes t (frame_in frame) (window_in t.order window) old new count
-
   -- The call succeeds if the window is within the limits and its tiles can be glued, unless memory runs out.
   -- Each refusal comes only for its cause.
   pub within : status ≡ ok → IsCoverWithinLimits t (frame_in frame) (window_in t.order window)

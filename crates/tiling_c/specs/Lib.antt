@@ -1,9 +1,9 @@
 pub mod Arrays
+pub mod At
 pub mod Calling
 pub mod Cover
 pub mod FramedWindow
 pub mod Glue
-pub mod At
 pub mod Locate
 pub mod Machines
 pub mod Meeting

@@ -79,7 +79,6 @@ pub record ShowsLocate (t : Tiling) (top : PlainTile) (depth : ℕ) (p : PlainPo
   -- in the plane: this is the only tile of the supertile that holds the point
   pub located : status ≡ ok
       → ShowsLocated t top.kind depth (motion_given t top) (number_given t p) numbers addr
-
   -- each refusal comes only for its cause
   pub by : AsksToLocate t top depth p
       → IsLocatedBy t top.kind depth (motion_given t top) (number_given t p) status

@@ -100,7 +100,6 @@ pub record ShowsStar (t : Tiling) (frame : PlainFrame) (vertex : ℕ) (old new :
     (status : ℕ) : Type 0 where
   -- in the plane: exactly the tiles of the frame that have the vertex, each exactly once, in turning order
   pub star : status ≡ ok → HoldsStar t (frame_in frame) vertex old new
-
   -- the call succeeds exactly within the limits, and each refusal comes only for its cause
   pub within : status ≡ ok → IsStarWithinLimits t (frame_in frame) vertex
   pub answered : NamesTile t frame.base → vertex < edges_of t frame.base.kind

@@ -138,7 +138,6 @@ pub record ShowsVerify (t : Tiling) (frame : PlainFrame) (window : PlainWindow) 
   pub complete : AsksToVerify window tiles addrs → NamesTile t frame.base
       → AreTilesOf t (frame_in frame) (window_in t.order window) tiles addrs
       → (status ≡ ok) ⊎ (status ≡ no_memory)
-
   -- each refusal comes only for its cause
   pub not_asked : (status ≡ bad_words) ↔ (¬ AsksToVerify window tiles addrs)
   pub names_none : (status ≡ bad_address) ↔ (AsksToVerify window tiles addrs × (¬ NamesTile t frame.base))

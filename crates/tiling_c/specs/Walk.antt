@@ -1,6 +1,6 @@
 -- The tiles of a path across edges, as plain numbers.
 use Rattle.std.specs.Prelude.{◌≡◌, ◌↔◌, ◌⊎◌, ◌+◌, ◌<◌, ◌≤◌, ℕ, max, List, length, get_or}
-use Rattle.theory_walks.specs.Frames.{FrameValue, GrowsTo, IsFrameOf, whole, at_depth}
+use Rattle.theory_walks.specs.Frames.{FrameValue, GrowsTo, whole, at_depth}
 use Rattle.lazy_walk.specs.declared.path_fault.PathFault.{PathFault}
 use Rattle.lazy_walk.specs.declared.path_fault.PathFault.TheVariants.{NoEdge, DepthLimit}
 use Rattle.theory_walks.specs.Paths.{CanBeWalked, IsStopped, LacksEdge}
@@ -122,7 +122,6 @@ pub record ShowsWalk (t : Tiling) (frame : PlainFrame) (grow : ℕ) (path : List
   -- in the plane: each tile after the base is the only one across its edge, and is in its place in the frame
   -- of the base
   pub walk : status ≡ ok → HoldsWalk t (frame_in frame) grow path new_tiles new_addrs
-
   -- Each answer comes only for its cause. At depth 64 the path can be walked, or it comes to a tile without
   -- the next edge, or to one whose next edge is on the boundary.
   pub walked : status ≡ ok → CanBeWalked t (whole (at_depth t 64 (frame_in frame))) path

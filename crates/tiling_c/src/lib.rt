@@ -9,6 +9,7 @@
 #![tactic(auto)]
 
 pub mod addresses;
+pub mod at;
 pub mod calling;
 pub mod cover;
 pub mod cross_arrays;
@@ -16,7 +17,6 @@ pub mod crossing;
 mod framed_window;
 pub mod glue;
 mod growing_sink;
-pub mod at;
 pub mod locate;
 pub mod machines;
 pub mod meeting;

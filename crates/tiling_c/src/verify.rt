@@ -173,8 +173,11 @@ fn line_told(why: &ListFault) -> u32
 
 /// Returns the refusal of a fault.
 fn refusal_of(why: &ListFault) -> Refusal
-    ensures { result ≡ record { status = status_told why.now; fault = fault_of why.now;
-        index = line_told why.now - 1 } }
+    ensures { result ≡ record {
+      status = status_told why.now;
+      fault = fault_of why.now;
+      index = line_told why.now - 1;
+    } }
 {
     Refusal {
         status: status_of(why),

@@ -63,12 +63,7 @@ fn grow_along<L: Ledger>(
 
 /// Returns the frame of these numbers, grown to at least a depth, in which a path can be walked. Err has the
 /// status of the refusal.
-fn frame_of_walk(
-    machine: &Machine,
-    frame: &PlainFrame,
-    grow: u8,
-    path: &[u8],
-) -> Result<Frame, u8>
+fn frame_of_walk(machine: &Machine, frame: &PlainFrame, grow: u8, path: &[u8]) -> Result<Frame, u8>
     requires at_most_64 { grow ≤ 64 }
     ensures given { IfOk result (GivesFrame (tiling_of machine.now) frame.now grow path.now) }
     ensures refused { IfErr result (RefusesFrame (tiling_of machine.now) frame.now path.now) }

@@ -1,4 +1,3 @@
-use Rattle.std.proofs.Common.{arith}
 use Rattle.rule_model.specs.Tiling.{tiling_of}
 use Rattle.tile_app.proofs.Drawing.{at_most_limit}
 use Rattle.tiling_c.proofs.Covers.{ended_within}

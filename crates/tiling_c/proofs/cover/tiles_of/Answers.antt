@@ -1,12 +1,14 @@
 use Rattle.std.proofs.Common.{inl, inr}
-use Rattle.std.proofs.lemmas.Result.{IfOk-weaker, IfErr-weaker}
+use Rattle.std.proofs.lemmas.Result.{IfOk-weaker, IfErr-weaker, err_from_is_err_and}
 use Rattle.rule_model.specs.Tiling.{tiling_of}
 use Rattle.tiling_c.specs.Cover.{FindsTiles, EndsSearch, GivesTiles, RefusesTiles}
 use Rattle.tiling_c.proofs.Moved.{given_moved}
 use Rattle.tiling_c.proofs.cover.tiles_of.Goals as goal
 
 pub returns-in_err-given-clause-refused : goal.returns-in_err-given-clause-refused
-returns-in_err-given-clause-refused c = inl c.in_err-given.ensures.refused
+returns-in_err-given-clause-refused c =
+    let p = err_from_is_err_and c.from_residual.result c.from_residual.ensures.1 in
+    rw (p.1, p.2) (inl c.in_err-given.ensures.refused)
 
 pub returns-clause-given : goal.returns-clause-given
 returns-clause-given c =

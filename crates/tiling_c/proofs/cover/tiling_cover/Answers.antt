@@ -9,6 +9,9 @@ pub returns-then-not-are_rooms-clause-shown : goal.returns-then-not-are_rooms-cl
 returns-then-not-are_rooms-clause-shown c = shows_no_room _ c.args.frame.now c.args.window.now c.args.tiles.now c.args.addrs.now c.args.count.now
     (λ rooms. no_true c.are_rooms.result c.if-not-are_rooms.true (c.are_rooms.ensures.1 rooms))
 
+pub put_covered-requires : goal.put_covered-requires
+put_covered-requires c = record { lengths = c.are_rooms.ensures.0 c.if-not-are_rooms.false }
+
 pub returns-in-Ok-clause-shown : goal.returns-in-Ok-clause-shown
 returns-in-Ok-clause-shown c = shows_tiles _ c.args.frame.now c.args.window.now c.args.tiles.now c.args.addrs.now
     (c.are_rooms.ensures.0 c.if-not-are_rooms.false) c.put_covered.new.tiles c.put_covered.new.addrs c.in-Ok.covered c.len.result

@@ -1,4 +1,4 @@
-use Rattle.std.proofs.Common.{sym, subst}
+use Rattle.std.proofs.Common.{subst}
 use Rattle.std.specs.Prelude.{IsOk}
 use Rattle.tiling_c.proofs.star.find.Goals as goal
 
@@ -15,8 +15,8 @@ returns-in-Ok-clause-found g c = let found = c.in-Ok.ensures in record {
   within = found.within;
 }
 
-pub returns-in-Err-clause-ended : goal.returns-in-Err-clause-ended
-returns-in-Err-clause-ended g c = record {
+pub returns-clause-ended : goal.returns-clause-ended
+returns-clause-ended g c = record {
   ended = record {
     frame = c.star.new.frame;
     grown = c.star.ensures.frame;

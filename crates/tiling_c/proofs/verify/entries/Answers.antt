@@ -1,8 +1,7 @@
-use Rattle.std.proofs.Common.{◌≡◌, ◌<◌, List, All, length, inl, refl, sym, ap, ◌∙◌, subst, arith}
+use Rattle.std.proofs.Common.{◌≡◌, ◌<◌, All, length, inl, refl, sym, ap, ◌∙◌, subst, arith}
 use Rattle.theory_addresses.specs.Address.{Fits}
 use Rattle.rule_model.specs.Tiling.{tiling_of, children}
 use Rattle.tile_shape.specs.Views.{address_of}
-use Rattle.listing_text.specs.declared.entry.Entry as program
 use Rattle.listing_text.specs.Listing.{Entry}
 use Rattle.listing_text.specs.Views.{entry_of}
 use Rattle.list_verify.specs.FoundLines.{entries_of}

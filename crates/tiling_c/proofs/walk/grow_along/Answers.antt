@@ -10,8 +10,8 @@ returns-in-Ok-clause-grown g c = record {
   walked_at_64 = c.in-Ok.ensures.walked_at_64;
 }
 
-pub returns-in-Err-clause-stopped : goal.returns-in-Err-clause-stopped
-returns-in-Err-clause-stopped g c =
+pub returns-clause-stopped : goal.returns-clause-stopped
+returns-clause-stopped g c =
     let t = tiling_of c.args.machine.now in record {
       lacks_edge = lacks_edge t c.args.frame.now c.args.path.now c.in-Err.fault c.status_of.result c.status_of.ensures
           c.in-Err.ensures.fault_at_64;

@@ -1,7 +1,7 @@
 use Rattle.std.proofs.Common.{subst}
 use Rattle.rule_model.specs.Tiling.{tiling_of}
 use Rattle.c_values.specs.Statuses.{ok}
-use Rattle.tiling_c.specs.Walk.{AreWalked, GivesFrame, RefusesFrame, ShowsWalk}
+use Rattle.tiling_c.specs.Walk.{ShowsWalk}
 use Rattle.tiling_c.proofs.Moved.{no_true}
 use Rattle.tiling_c.proofs.WalkShown.{shows_not_asked, shows_walk, shows_refusal}
 use Rattle.tiling_c.proofs.walk.tiling_walk.Goals as goal
