@@ -44,7 +44,8 @@ pub const WRONG_PLACE: u8 = 5;
 /// The tile of the entry does not meet the window.
 pub const STRAY: u8 = 6;
 
-/// Why arrays are refused. At BAD_LISTING `fault` is the number of what is wrong, and `index` that of its entry.
+/// Why arrays are refused. At BAD_LISTING `fault` is the number of what is wrong, and `index` that of its
+/// entry.
 #[derive(Clone, Copy)]
 pub struct Refusal {
     status: u8,

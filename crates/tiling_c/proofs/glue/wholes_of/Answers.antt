@@ -20,7 +20,8 @@ pub returns-in_err-tiles-clause-refused : goal.returns-in_err-tiles-clause-refus
 returns-in_err-tiles-clause-refused c =
     let t = tiling_of c.args.machine.now in
     let given = c.in_ok-given.ensures.given in
-    let ended = given_moved (λ f w. EndsSearch t f w c.in_err-tiles.field-0.0) _ _ _ _ given.its_frame given.its_window c.in_err-tiles.ensures.ended in
+    let ended = given_moved (λ f w. EndsSearch t f w c.in_err-tiles.field-0.0) _ _ _ _ given.its_frame given.its_window
+    c.in_err-tiles.ensures.ended in
     let p = err_from_is_err_and c.from_residual-in_err-tiles.result c.from_residual-in_err-tiles.ensures.1 in
     rw (p.1, p.2) (inr (record {
       window_given = given.window_given;
