@@ -21,7 +21,7 @@ use Rattle.tiling_c.specs.Shown.{tile_shown}
 
 -- The frame has grown from `start` to the least depth at which it holds the point. Exactly one of its tiles
 -- there holds the point, which is this one.
-pub record IsHolder (t : Tiling) (start : FrameValue) (p : NumberOf t.order)
+pub record IsTileAtPoint (t : Tiling) (start : FrameValue) (p : NumberOf t.order)
     (tile : PlacedTile) : Type 0 where
   pub frame : FrameValue
   pub grown : GrowsTo t start frame
@@ -35,7 +35,7 @@ pub record IsHolder (t : Tiling) (start : FrameValue) (p : NumberOf t.order)
 pub record ShowsHolder (t : Tiling) (start : FrameValue) (p : NumberOf t.order) (numbers : PlainTile)
     (addr : PlainAddress) : Type 0 where
   pub tile : PlacedTile
-  pub holder : IsHolder t start p tile
+  pub holder : IsTileAtPoint t start p tile
   pub its_numbers : numbers ≡ tile_shown tile
   pub its_address : ShowsAddress addr (address_of tile.addr)
 
@@ -43,7 +43,7 @@ pub record ShowsHolder (t : Tiling) (start : FrameValue) (p : NumberOf t.order) 
 pub record GivesHolder (t : Tiling) (frame : PlainFrame) (p : PlainPoint) (tile : PlacedTile) : Type 0 where
   pub near : IsNearby p.c
   pub named : NamesTile t frame.base
-  pub holder : IsHolder t (frame_in frame) (number_given t p) tile
+  pub holder : IsTileAtPoint t (frame_in frame) (number_given t p) tile
 
 -- they give them, and a value on the way is refused
 pub record StopsHolder (t : Tiling) (frame : PlainFrame) (p : PlainPoint) (status : ℕ) : Type 0 where

@@ -60,8 +60,8 @@ pub record HoldsWholes (all : List WholeTile) (old new : List PlainWholeTile) : 
 
 -- All of these tiles of the frame can be glued. The frame has grown on to the least depth at which no glue
 -- edge of theirs is on the boundary. These are exactly their whole tiles, each once and in order.
-pub record AreGlued (t : Tiling) (frame : FrameValue) (tiles : List PlacedTile) (glued_frame : FrameValue)
-    (all : List WholeTile) : Type 0 where
+pub record FindsWholes (t : Tiling) (frame : FrameValue) (tiles : List PlacedTile)
+    (glued_frame : FrameValue) (all : List WholeTile) : Type 0 where
   pub can_be_glued : CanBeGlued t frame tiles
   pub grown : GrowsTo t frame glued_frame
   pub least : IsLeastForGlue t frame tiles (length glued_frame.digits)
@@ -73,7 +73,7 @@ pub record ShowsGlued (t : Tiling) (frame : FrameValue) (tiles : List PlacedTile
     (old new : List PlainWholeTile) (count : ℕ) : Type 0 where
   pub glued_frame : FrameValue
   pub all : List WholeTile
-  pub glued : AreGlued t frame tiles glued_frame all
+  pub glued : FindsWholes t frame tiles glued_frame all
   pub number : count ≡ length all
   pub held : HoldsWholes all old new
 
@@ -114,7 +114,8 @@ abbrev pub EndsWholes : Tiling → FrameValue → Window → ℕ → Type 0
 EndsWholes t start window status = EndsCover t start window status ⊎ EndsGlue t start window status
 
 -- the tiles of the frame can't be glued, for a cause, which is want of memory if all of them can
-pub record EndsGluing (t : Tiling) (frame : FrameValue) (tiles : List PlacedTile) (status : ℕ) : Type 0 where
+pub record RefusesGluing (t : Tiling) (frame : FrameValue) (tiles : List PlacedTile)
+    (status : ℕ) : Type 0 where
   pub ended : StopsGluing t frame tiles status
   pub answered : CanBeGlued t frame tiles → status ≡ no_memory
 
@@ -128,7 +129,7 @@ pub record GivesWholes (t : Tiling) (frame : PlainFrame) (window : PlainWindow)
   pub tiles : List PlacedTile
   pub exactly : TilesOfWindow t (frame_in frame) (window_in t.order window) grown_frame tiles
   pub glued_frame : FrameValue
-  pub glued : AreGlued t grown_frame tiles glued_frame all
+  pub glued : FindsWholes t grown_frame tiles glued_frame all
   pub few : length all ≤ most_tiles
   pub cover : WholesCover t (box_of t (window_in t.order window)) all
 

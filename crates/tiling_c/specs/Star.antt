@@ -40,7 +40,7 @@ pub record HoldsCorners (corners : List Corner) (old new : PlainVertexStar) : Ty
 -- The frame has grown from `start` to the least depth at which the vertex of its base lies on no edge of its
 -- polygon. These are exactly its tiles that have the vertex. Each comes once, with its motion in the base's
 -- frame and with its own number for the vertex. They are in turning order from the base.
-pub record IsStar (t : Tiling) (start : FrameValue) (vertex : ℕ) (corners : List Corner) : Type 0 where
+pub record IsVertexStar (t : Tiling) (start : FrameValue) (vertex : ℕ) (corners : List Corner) : Type 0 where
   pub frame : FrameValue
   pub grown : GrowsTo t start frame
   pub least : IsLeastForVertex t start vertex (length frame.digits)
@@ -51,7 +51,7 @@ pub record IsStar (t : Tiling) (start : FrameValue) (vertex : ℕ) (corners : Li
 -- their numbers are there
 pub record HoldsStar (t : Tiling) (start : FrameValue) (vertex : ℕ) (old new : PlainVertexStar) : Type 0 where
   pub corners : List Corner
-  pub star : IsStar t start vertex corners
+  pub star : IsVertexStar t start vertex corners
   pub held : HoldsCorners corners old new
 
 -- the status of each fault
@@ -69,7 +69,7 @@ pub record EndsTurn (t : Tiling) (start : FrameValue) (vertex : ℕ) (status : �
 
 -- this is the star of the vertex, which is within the limits
 pub record FindsStar (t : Tiling) (start : FrameValue) (vertex : ℕ) (corners : List Corner) : Type 0 where
-  pub star : IsStar t start vertex corners
+  pub star : IsVertexStar t start vertex corners
   pub within : IsStarWithinLimits t start vertex
 
 -- the search ended, which it does only beyond the limits

@@ -5,7 +5,7 @@ ghost use Rattle.half_glue.specs.Given.{AreToGlue};
 ghost use Rattle.rule_model.specs.Tiling.{tiling_of};
 ghost use Rattle.window_cover.specs.InOrder as covered;
 ghost use Rattle.c_values.specs.Statuses.{ok};
-ghost use Rattle.tiling_c.specs.Glue.{ShowsTile, ShowsWhole, HoldsWholes, AreGlued, EndsGluing, GivesWholes, RefusesWholes, ShowsGlue, code_of_glue};
+ghost use Rattle.tiling_c.specs.Glue.{ShowsTile, ShowsWhole, HoldsWholes, FindsWholes, RefusesGluing, GivesWholes, RefusesWholes, ShowsGlue, code_of_glue};
 
 use crate::cover::find;
 use crate::framed_window::framed_window;
@@ -126,8 +126,8 @@ fn glue(
 ) -> Result<GluedTiles, u8>
     requires to_glue { AreToGlue (tiling_of machine.now) frame.old tiles }
     requires in_order { covered.AreInOrder tiles }
-    ensures glued { IfOk result (AreGlued (tiling_of machine.now) frame.old tiles frame.new) }
-    ensures ended { IfErr result (EndsGluing (tiling_of machine.now) frame.old tiles) }
+    ensures glued { IfOk result (FindsWholes (tiling_of machine.now) frame.old tiles frame.new) }
+    ensures ended { IfErr result (RefusesGluing (tiling_of machine.now) frame.old tiles) }
 {
     match glue_covered(alloc, machine, frame, tiles) {
         Ok(glued) => Ok(glued),

@@ -3,7 +3,7 @@ use Rattle.cyclo_points.specs.Point.{point_in}
 use Rattle.theory_walks.specs.Containing.{first_refused_outward}
 use Rattle.rule_model.specs.Tiling.{tiling_of}
 use Rattle.c_values.specs.Windows.{point_given}
-use Rattle.tiling_c.specs.At.{IsHolder}
+use Rattle.tiling_c.specs.At.{IsTileAtPoint}
 use Rattle.tiling_c.proofs.Moved.{given_moved}
 use Rattle.tiling_c.proofs.at.holder.Goals as goal
 
@@ -21,7 +21,7 @@ returns-in-Ok-clause-given c =
     let point = c.in-Some.ensures.point ∙ ap (λ o. point_given o c.args.point.now.c) order in record {
       near = c.in-Some.ensures.near.0 refl;
       named = c.in-Some-frame.ensures.named.0 refl;
-      holder = given_moved (λ f p. IsHolder t f (point_in t.order p) c.in-Ok.found) _ _ _ _ c.in-Some-frame.ensures.seen point (record {
+      holder = given_moved (λ f p. IsTileAtPoint t f (point_in t.order p) c.in-Ok.found) _ _ _ _ c.in-Some-frame.ensures.seen point (record {
         frame = c.contain.new.self;
         grown = c.contain.ensures.frame;
         least = c.contain.ensures.least;
