@@ -7,18 +7,13 @@ use Rattle.theory_walks.specs.Frames.{FrameValue, whole, at_depth}
 use Rattle.theory_walks.specs.Paths.{IsStopped}
 use Rattle.rule_model.specs.Tiling.{Tiling}
 use Rattle.tile_shape.specs.Views.{address_of}
-use Rattle.c_values.specs.Statuses.{ok, depth_limit, no_edge}
-use Rattle.tiling_c.specs.Walks.{HasNoEdgeAhead, code_of_path}
-
--- no fault has the status of an answer
-pub path_not_ok : (fault : PathFault) (status : ℕ) → status ≡ code_of_path fault → ¬ status ≡ ok
-path_not_ok (NoEdge edge edges) status is e = absurd (cc (sym is ∙ e))
-path_not_ok (DepthLimit limit) status is e = absurd (cc (sym is ∙ e))
+use Rattle.c_values.specs.Statuses.{depth_limit, no_edge}
+use Rattle.tiling_c.specs.Walk.{HasNoEdgeAhead, code_of_path}
 
 -- a fault has one of two statuses
-pub path_status : (fault : PathFault) (status : ℕ) → status ≡ code_of_path fault → (status ≡ ok) ⊎ (status ≡ no_edge) ⊎ (status ≡ depth_limit)
-path_status (NoEdge edge edges) status is = inr (inl is)
-path_status (DepthLimit limit) status is = inr (inr is)
+pub path_status : (fault : PathFault) (status : ℕ) → status ≡ code_of_path fault → (status ≡ no_edge) ⊎ (status ≡ depth_limit)
+path_status (NoEdge edge edges) status is = inl is
+path_status (DepthLimit limit) status is = inr is
 
 -- each status for its cause
 pub lacks_edge : (t : Tiling) (start : FrameValue) (path : List ℕ) (fault : PathFault) (status : ℕ) → status ≡ code_of_path fault

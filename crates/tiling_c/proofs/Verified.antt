@@ -20,7 +20,7 @@ use Rattle.c_values.specs.declared.plain_address.PlainAddress.{PlainAddress}
 use Rattle.c_values.specs.declared.plain_tile.PlainTile.{PlainTile}
 use Rattle.c_values.specs.Statuses.{ok, no_memory, bad_words, bad_address, bad_listing}
 use Rattle.tiling_c.specs.Arrays.{plain_tile_at, plain_address_at}
-use Rattle.tiling_c.specs.Verifying.{entry_given, entries_given, AreEntries, AreTilesOf, status_told, fault_of}
+use Rattle.tiling_c.specs.Verify.{entry_given, entries_given, AreEntries, AreTilesOf, status_told, fault_of}
 
 none : {A : Type 0} (xs : List A) → take 0 xs ≡ []
 none [] = refl

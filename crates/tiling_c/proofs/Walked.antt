@@ -14,7 +14,7 @@ use Rattle.c_values.specs.declared.plain_tile.PlainTile.{PlainTile}
 use Rattle.c_values.specs.Addresses.{address_in}
 use Rattle.c_values.specs.Tiles.{refused_as}
 use Rattle.tiling_c.specs.Arrays.{no_address, plain_tile_at, plain_address_at}
-use Rattle.tiling_c.specs.Walks.{ShowsStanding, IsReached}
+use Rattle.tiling_c.specs.Walk.{ShowsStanding, IsReached}
 
 -- what was put there before stays
 pub address_before : (addrs : List PlainAddress) (i j : ℕ) (addr : PlainAddress) → j < i

@@ -9,13 +9,15 @@
 #![tactic(auto)]
 
 pub mod addresses;
+pub mod at;
 pub mod calling;
-pub mod covering;
+pub mod cover;
 pub mod cross_arrays;
 pub mod crossing;
+mod framed_window;
+pub mod glue;
 mod growing_sink;
-pub mod holding;
-pub mod locating;
+pub mod locate;
 pub mod machines;
 pub mod meeting;
 pub mod opening;
@@ -24,7 +26,6 @@ pub mod place_arrays;
 pub mod placing;
 pub mod rule_numbers;
 pub mod shapes;
-pub mod stars;
-pub mod verifying;
-pub mod walks;
-pub mod wholes;
+pub mod star;
+pub mod verify;
+pub mod walk;
