@@ -20,6 +20,10 @@ impl Layer for Box<dyn Layer> {
         (**self).format()
     }
 
+    fn looks_at_all(&self) -> bool {
+        (**self).looks_at_all()
+    }
+
     fn begin(&mut self, view: View) {
         (**self).begin(view)
     }

@@ -33,6 +33,14 @@ pub trait Layer: Drop {
     fn format(&self) -> Format
         ensures { result ≡ form self.now };
 
+    /// Returns true if the layer looks at all that its tiles have. Otherwise it looks only at what the text of
+    /// its format depends on: for an SVG the classes and outlines, for a list the parts, and for a census the
+    /// number of tiles of each class. All else in its tiles may then be anything, and so may the order of a
+    /// census.
+    fn looks_at_all(&self) -> bool {
+        true
+    }
+
     /// Begins with this view and no tiles. Needs no memory.
     fn begin(&mut self, view: View)
         requires { IsView view }

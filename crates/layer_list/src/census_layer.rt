@@ -72,6 +72,10 @@ impl Layer for CensusLayer {
         Format::Census
     }
 
+    fn looks_at_all(&self) -> bool {
+        false
+    }
+
     fn begin(&mut self, view: View) {
         self.view = view;
         self.begun = true;

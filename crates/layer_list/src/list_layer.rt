@@ -65,6 +65,10 @@ impl Layer for ListLayer {
         Format::List
     }
 
+    fn looks_at_all(&self) -> bool {
+        false
+    }
+
     fn begin(&mut self, view: View) {
         self.view = view;
         self.begun = true;

@@ -100,6 +100,10 @@ impl Layer for SvgLayer {
         Format::Svg
     }
 
+    fn looks_at_all(&self) -> bool {
+        false
+    }
+
     fn begin(&mut self, view: View) {
         self.kept.clear();
         self.view = view;
