@@ -9,6 +9,18 @@ use Rattle.tile_app.specs.Pictured.{picture_of}
 use Rattle.tile_app.proofs.SameTexts.{zip-more}
 use Rattle.tile_app.proofs.draw.put_tiles.Goals as goal
 
+-- no tiles yet
+pub loop-place-init : goal.loop-place-init
+loop-place-init g c = record {
+  begun = c.requires.begun;
+  going = c.requires.open;
+  seen = refl;
+  form = refl;
+  drawable = c.stand_in-drawn.ensures c.args.machine.now.order;
+  put = record { tiles = []; same = tt; are_drawn = c.requires.none };
+}
+
+-- one tile more
 pub loop-place-preserved : goal.loop-place-preserved
 loop-place-preserved g c =
     let before = c.loop-place.invariant in
