@@ -58,7 +58,11 @@ impl GluedTiles {
         requires below { place < length self.now }
         ensures { IfSome (slice_get self.now place) (λ w. result ≡ w.first.kind) }
     {
-        let (_, kind) = place_of(&self.tiles, self.crossed.as_slice(), self.pairs[place].first);
+        let (_, kind) = place_of(
+            &self.tiles,
+            self.crossed.as_slice(),
+            self.pairs[place].first,
+        );
         kind
     }
 
@@ -68,7 +72,11 @@ impl GluedTiles {
         ensures motion { IfSome (slice_get self.now place) (λ w. result.0 ≡ w.first.motion) }
         ensures kind { IfSome (slice_get self.now place) (λ w. result.1 ≡ w.first.kind) }
     {
-        place_of(&self.tiles, self.crossed.as_slice(), self.pairs[place].first)
+        place_of(
+            &self.tiles,
+            self.crossed.as_slice(),
+            self.pairs[place].first,
+        )
     }
 
     /// Like [`first_place`](Self::first_place), for the second half, which must exist.

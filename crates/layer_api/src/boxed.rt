@@ -16,6 +16,8 @@ impl Layer for Box<dyn Layer> {
 
     ghost draws = { λ b. (Layer-box b).draws b.value };
 
+    ghost needs_all = { λ b. (Layer-box b).needs_all b.value };
+
     fn format(&self) -> Format {
         (**self).format()
     }

@@ -29,15 +29,19 @@ pub trait Layer: Drop {
     // that keeps its text, and not its tiles, draws each list that has this text.
     ghost draws: { Self → List Drawn → Type 0 };
 
+    // True if it must get all that its tiles have. So it is if a layer says nothing.
+    ghost needs_all: { Self → Bool } = { λ _. true };
+
     /// Returns the format.
     fn format(&self) -> Format
         ensures { result ≡ form self.now };
 
     /// Returns true if the layer looks at all that its tiles have. Otherwise it looks only at what the text of
-    /// its format depends on: for an SVG the classes and outlines, for a list the parts, and for a census the
-    /// number of tiles of each class. All else in its tiles may then be anything, and so may the order of a
-    /// census.
-    fn looks_at_all(&self) -> bool {
+    /// its format depends on, and all else may be anything. An SVG depends on the classes and outlines, a list
+    /// on the parts, and a census on the number of tiles of each class.
+    fn looks_at_all(&self) -> bool
+        ensures { IsTrue (needs_all self.now) → IsTrue result }
+    {
         true
     }
 

@@ -1,5 +1,5 @@
 //! The layer that draws a picture as SVG.
-ghost use Rattle.std.specs.Prelude.{◌≡◌, IsFalse};
+ghost use Rattle.std.specs.Prelude.{◌≡◌, IsFalse, false};
 ghost use Rattle.layer_api.specs.declared.format.Format.TheVariants.{Svg};
 ghost use Rattle.layer_svg.specs.Written.{IsPictureWritten};
 
@@ -95,6 +95,8 @@ impl Layer for SvgLayer {
     ghost ended = { λ s. s.ended };
 
     ghost draws = { λ s tiles. IsPictureWritten s.view s.ended s.text tiles };
+
+    ghost needs_all = { λ _. false };
 
     fn format(&self) -> Format {
         Format::Svg

@@ -77,6 +77,13 @@ alike-in false Svg ts us h = h
 alike-in false Listing ts us h = h
 alike-in false Census ts us h = same-counts ts us h
 
+-- ---- to a layer that looks at all, equal
+pub equal-tiles : (ts us : List Drawn) → AllZip (λ d e. d ≡ e) ts us → ts ≡ us
+equal-tiles [] [] h = refl
+equal-tiles [] (u ∷ us) h = absurd h
+equal-tiles (t ∷ ts) [] h = absurd h
+equal-tiles (t ∷ ts) (u ∷ us) h = ap₂ (λ x xs. x ∷ xs) h.0 (equal-tiles ts us h.1)
+
 -- ---- one tile more
 pub zip-more : (R : Drawn → Drawn → Type 0) (ts us : List Drawn) (d e : Drawn) → AllZip R ts us → R d e → AllZip R (ts ++ d ∷ []) (us ++ e ∷ [])
 zip-more R [] [] d e h r = (r, tt)

@@ -110,7 +110,8 @@ fn put_tiles<D: Layer>(
     Ok(())
 }
 
-/// Draws a picture through a layer, from beginning to end.
+/// Draws a picture through a layer, from beginning to end. The layer gets all that the tiles have if it
+/// needs all, and otherwise at least what the text of its format depends on.
 fn draw<D: Layer>(
     layer: &mut D,
     machine: &Machine,
@@ -122,10 +123,12 @@ fn draw<D: Layer>(
     requires can { CanBePictured (tiling_of machine.now) picture.now }
     ensures drawn { OnOk result (HasDrawn D.form D.seen D.ended D.draws view
         (picture_of (tiling_of machine.now) picture.now) layer.new) }
+    ensures whole { OnOk result (IsTrue (D.needs_all layer.old)
+        → D.draws layer.new (picture_of (tiling_of machine.now) picture.now)) }
     ensures form { D.form layer.new ≡ D.form layer.old }
 {
-    layer.begin(view);
     let looks = Looks::of(layer.looks_at_all(), layer.format());
+    layer.begin(view);
     put_tiles(layer, looks, machine, picture)?;
     layer.end()
 }
