@@ -1,6 +1,6 @@
 //! The whole tiles of a window, to be read one at a time.
 ghost use Rattle.std.specs.Prelude.{◌≡◌, ◌<◌, ◌++◌, All, Some, length, slice_get, IfSome, IsTrue};
-ghost use Rattle.std.specs.Option.{is_some};
+ghost use Rattle.std.specs.Option.{is_some, option_map};
 ghost use Rattle.half_glue.specs.Found.{given_tile};
 ghost use Rattle.half_glue.specs.Lifted.{IsNoDeeper, lifted_to};
 
@@ -53,6 +53,45 @@ impl GluedTiles {
         self.pairs[place].second.is_some()
     }
 
+    /// Returns the kind of the first half of the whole tile at a place.
+    pub fn first_kind(&self, place: usize) -> u8
+        requires below { place < length self.now }
+        ensures { IfSome (slice_get self.now place) (λ w. result ≡ w.first.kind) }
+    {
+        let (_, kind) = place_of(
+            &self.tiles,
+            self.crossed.as_slice(),
+            self.pairs[place].first,
+        );
+        kind
+    }
+
+    /// Returns the motion and the kind of the first half of the whole tile at a place.
+    pub fn first_place(&self, place: usize) -> (Motion, u8)
+        requires below { place < length self.now }
+        ensures motion { IfSome (slice_get self.now place) (λ w. result.0 ≡ w.first.motion) }
+        ensures kind { IfSome (slice_get self.now place) (λ w. result.1 ≡ w.first.kind) }
+    {
+        place_of(
+            &self.tiles,
+            self.crossed.as_slice(),
+            self.pairs[place].first,
+        )
+    }
+
+    /// Like [`first_place`](Self::first_place), for the second half, which must exist.
+    pub fn second_place(&self, place: usize) -> (Motion, u8)
+        requires below { place < length self.now }
+        requires is_pair { IfSome (slice_get self.now place) (λ w. IsTrue (is_some w.second)) }
+        ensures motion { IfSome (slice_get self.now place)
+            (λ w. Some result.0 ≡ option_map (λ x. x.motion) w.second) }
+        ensures kind { IfSome (slice_get self.now place)
+            (λ w. Some result.1 ≡ option_map (λ x. x.kind) w.second) }
+    {
+        let number = self.pairs[place].second.unwrap();
+        place_of(&self.tiles, self.crossed.as_slice(), number)
+    }
+
     /// Replaces a kind, a motion and an address by those of the first half of the whole tile at a place in
     /// the order.
     pub fn put_first(&self, place: usize, kind: &mut u8, motion: &mut Motion, addr: &mut Address)
@@ -89,6 +128,24 @@ impl GluedTiles {
             motion,
             addr,
         );
+    }
+}
+
+/// Returns the motion and the kind of the tile with this number. The tiles of the window come first in the
+/// numbering, then the tiles crossed to.
+#[inline]
+fn place_of(tiles: &CoveredTiles, crossed: &[PlacedTile], number: u32) -> (Motion, u8)
+    requires below { number < length (tiles.now ++ crossed.now) }
+    ensures motion { result.0 ≡ (given_tile (tiles.now ++ crossed.now) number).motion }
+    ensures kind { result.1 ≡ (given_tile (tiles.now ++ crossed.now) number).kind }
+{
+    let place = number as usize;
+    let count = tiles.len();
+    if place < count {
+        (tiles.motion(place), tiles.kind(place))
+    } else {
+        let tile = &crossed[place - count];
+        (tile.motion, tile.kind)
     }
 }
 

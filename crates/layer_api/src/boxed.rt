@@ -16,8 +16,14 @@ impl Layer for Box<dyn Layer> {
 
     ghost draws = { λ b. (Layer-box b).draws b.value };
 
+    ghost needs_all = { λ b. (Layer-box b).needs_all b.value };
+
     fn format(&self) -> Format {
         (**self).format()
+    }
+
+    fn looks_at_all(&self) -> bool {
+        (**self).looks_at_all()
     }
 
     fn begin(&mut self, view: View) {

@@ -29,9 +29,21 @@ pub trait Layer: Drop {
     // that keeps its text, and not its tiles, draws each list that has this text.
     ghost draws: { Self → List Drawn → Type 0 };
 
+    // True if it must get all that its tiles have. So it is if a layer says nothing.
+    ghost needs_all: { Self → Bool } = { λ _. true };
+
     /// Returns the format.
     fn format(&self) -> Format
         ensures { result ≡ form self.now };
+
+    /// Returns true if the layer looks at all that its tiles have. Otherwise it looks only at what its
+    /// format's text depends on, and all else may be anything. An SVG depends on the classes and outlines,
+    /// a list on the parts, and a census on the number of tiles of each class.
+    fn looks_at_all(&self) -> bool
+        ensures { IsTrue (needs_all self.now) → IsTrue result }
+    {
+        true
+    }
 
     /// Begins with this view and no tiles. Needs no memory.
     fn begin(&mut self, view: View)

@@ -1,5 +1,5 @@
 //! The census of tiles.
-ghost use Rattle.std.specs.Prelude.{◌≡◌, List, length, IfOk, IsFalse};
+ghost use Rattle.std.specs.Prelude.{◌≡◌, List, length, IfOk, IsFalse, false};
 ghost use Rattle.layer_api.specs.declared.drawn.Drawn.{Drawn};
 ghost use Rattle.layer_api.specs.declared.format.Format.TheVariants.{Census};
 ghost use Rattle.layer_api.specs.CensusText.{census_text};
@@ -68,8 +68,14 @@ impl Layer for CensusLayer {
 
     ghost draws = { λ s tiles. IsCensus s.counts s.all s.ended s.text.items s.view.kinds tiles };
 
+    ghost needs_all = { λ _. false };
+
     fn format(&self) -> Format {
         Format::Census
+    }
+
+    fn looks_at_all(&self) -> bool {
+        false
     }
 
     fn begin(&mut self, view: View) {

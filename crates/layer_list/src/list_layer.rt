@@ -1,5 +1,5 @@
 //! The list of tiles.
-ghost use Rattle.std.specs.Prelude.{◌≡◌, ◌+◌, ◌≤◌, [], ◌∷◌, ◌++◌, length, IsFalse};
+ghost use Rattle.std.specs.Prelude.{◌≡◌, ◌+◌, ◌≤◌, [], ◌∷◌, ◌++◌, length, IsFalse, false};
 ghost use Rattle.cyclo_points.specs.Text.{newline};
 ghost use Rattle.layer_api.specs.declared.format.Format.TheVariants.{List as Listing};
 ghost use Rattle.layer_api.specs.declared.line.TheConstants.{LINE_ROOM};
@@ -61,8 +61,14 @@ impl Layer for ListLayer {
 
     ghost draws = { λ s tiles. s.text.items ≡ list_text tiles };
 
+    ghost needs_all = { λ _. false };
+
     fn format(&self) -> Format {
         Format::List
+    }
+
+    fn looks_at_all(&self) -> bool {
+        false
     }
 
     fn begin(&mut self, view: View) {

@@ -1,5 +1,5 @@
 //! The layer that draws a picture as SVG.
-ghost use Rattle.std.specs.Prelude.{◌≡◌, IsFalse};
+ghost use Rattle.std.specs.Prelude.{◌≡◌, IsFalse, false};
 ghost use Rattle.layer_api.specs.declared.format.Format.TheVariants.{Svg};
 ghost use Rattle.layer_svg.specs.Written.{IsPictureWritten};
 
@@ -96,8 +96,14 @@ impl Layer for SvgLayer {
 
     ghost draws = { λ s tiles. IsPictureWritten s.view s.ended s.text tiles };
 
+    ghost needs_all = { λ _. false };
+
     fn format(&self) -> Format {
         Format::Svg
+    }
+
+    fn looks_at_all(&self) -> bool {
+        false
     }
 
     fn begin(&mut self, view: View) {

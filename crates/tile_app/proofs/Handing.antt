@@ -17,6 +17,7 @@ use Rattle.layer_api.specs.LayerText.{layer_text}
 use Rattle.tile_io.specs.Taken.{Takes, TakesProperPrefix, TakenInTurn}
 use Rattle.tile_app.specs.Draw.{texts_of}
 use Rattle.tile_app.specs.LayerTexts.{HasDrawn, FirstHasDrawn}
+use Rattle.tile_app.proofs.SameTexts.{same-text}
 
 some_is : (k l : ℕ) → Some k ≡ Some l → k ≡ l
 some_is k l e = cc
@@ -24,7 +25,7 @@ some_is k l e = cc
 module _ {D : Type 0} (form : D → Format) (seen : D → View) (ended : D → Bool) (draws : D → List Drawn → Type 0)
     (view : View) (picture : List Drawn) where
   abbrev Has : D → Type 0
-  Has = HasDrawn seen ended draws view picture
+  Has = HasDrawn form seen ended draws view picture
 
   abbrev First : List D → Format → Type 0
   First = FirstHasDrawn form seen ended draws view picture
@@ -61,7 +62,9 @@ module _ {D : Type 0} (form : D → Format) (seen : D → View) (ended : D → B
         let at : slice_get layers place ≡ Some layer = slice_get_read layers (length layers) place layer refl there is in
         let of_place = subst (λ o. IfSome o (λ k. IfSome (slice_get layers k) (λ d. form d ≡ format))) some its_form in
         let same : form layer ≡ format = subst (λ o. IfSome o (λ d. form d ≡ format)) at of_place in
-        told picture its-drawn.its_picture ∙ ap₂ (λ f v. layer_text f v picture) same its-drawn.its_view
+        told its-drawn.its_tiles its-drawn.its_picture
+        ∙ same-text (form layer) (seen layer) its-drawn.its_tiles picture its-drawn.alike
+        ∙ ap₂ (λ f v. layer_text f v picture) same its-drawn.its_view
 
 -- ---- the texts in turn
 pub takes_none : (a : Option (List ℕ)) → Takes a a []

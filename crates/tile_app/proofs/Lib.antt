@@ -16,6 +16,8 @@ mod OnePath
 mod Verdicts
 mod OneAnswer
 pub mod Answered
+mod SameTexts
+mod Places
 pub mod Handing
 pub mod Headline
 pub mod Drilled

@@ -1,5 +1,5 @@
 -- A tile of a tiling, and a whole tile, as they are drawn.
-use Rattle.std.specs.Prelude.{◌≡◌, ℕ, ◌<◌, ◌^◌, map, Option, None, Some, length}
+use Rattle.std.specs.Prelude.{◌≡◌, ℕ, ◌<◌, ◌^◌, map, [], Option, None, Some, length}
 use Rattle.std.specs.Option.{option_map}
 use Rattle.theory_substitution.specs.Motion.{moved}
 use Rattle.theory_substitution.specs.RuleParts.{vertices_of}
@@ -45,6 +45,17 @@ tile_drawn p = record { kind = p.kind; motion = p.motion; addr = p.addr }
 -- the whole tile of these parts
 abbrev pub whole_by : Part → Option Part → WholeTile
 whole_by first second = record { first = tile_drawn first; second = option_map tile_drawn second }
+
+-- a tile with its kind and its place, without its address
+abbrev pub tile_place : PlacedTile → PlacedTile
+tile_place x = record {
+  kind = x.kind;
+  motion = x.motion;
+  addr = record { kind = 0; digits = record { items = [] } };
+}
+
+abbrev pub whole_place : WholeTile → WholeTile
+whole_place w = record { first = tile_place w.first; second = option_map tile_place w.second }
 
 -- The whole tile as it is drawn: the kind of its first half is its class, the halves glued are its outline,
 -- and they are its parts.

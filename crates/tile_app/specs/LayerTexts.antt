@@ -6,14 +6,17 @@ use Rattle.layer_api.specs.declared.format.Format.{Format}
 use Rattle.layer_api.specs.declared.view.View.{View}
 use Rattle.tile_app.specs.declared.whole_answer.WholeAnswer.{WholeAnswer}
 use Rattle.tile_app.specs.declared.whole_answer.WholeAnswer.TheVariants.{Text, Layers}
+use Rattle.tile_app.specs.Alike.{AreAlikeIn}
 use Rattle.tile_app.specs.Draw.{texts_of}
 
--- a layer has drawn these tiles of a view, to its end
-pub record HasDrawn {D : Type 0} (seen : D → View) (ended : D → Bool) (draws : D → List Drawn → Type 0)
-    (view : View) (picture : List Drawn) (layer : D) : Type 0 where
+-- a layer has drawn tiles of a view, to its end, and in its format they have the text of this picture
+pub record HasDrawn {D : Type 0} (form : D → Format) (seen : D → View) (ended : D → Bool)
+    (draws : D → List Drawn → Type 0) (view : View) (picture : List Drawn) (layer : D) : Type 0 where
   pub its_view : seen layer ≡ view
   pub has_ended : IsTrue (ended layer)
-  pub its_picture : draws layer picture
+  pub its_tiles : List Drawn
+  pub alike : AreAlikeIn (form layer) its_tiles picture
+  pub its_picture : draws layer its_tiles
 
 module _ {D : Type 0} (form : D → Format) (seen : D → View) (ended : D → Bool)
     (draws : D → List Drawn → Type 0) where
@@ -21,7 +24,7 @@ module _ {D : Type 0} (form : D → Format) (seen : D → View) (ended : D → B
   abbrev pub FirstHasDrawn : View → List Drawn → List D → Format → Type 0
   FirstHasDrawn view picture layers format =
       (place : ℕ) → position (λ f. same_format f format) (map form layers) ≡ Some place
-      → HoldsAt (HasDrawn seen ended draws view picture) layers place
+      → HoldsAt (HasDrawn form seen ended draws view picture) layers place
 
   -- Each of these formats has a layer, and the first layers with them have drawn the same tiles of the same
   -- view. This is the text of these layers, one behind the other.

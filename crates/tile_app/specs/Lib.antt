@@ -20,6 +20,8 @@ pub mod TilesOfWindow
 pub mod Pictures
 pub mod Pictured
 pub mod Draw
+pub mod Looks
+pub mod Alike
 pub mod LayerTexts
 pub mod Check
 pub mod Calc

@@ -1,5 +1,5 @@
 //! The command `draw`: the tiles of a window, through the layers of the caller.
-ghost use Rattle.std.specs.Prelude.{◌≡◌, ℕ, List, All, map, None, IfOk, IfErr, OnOk, IsTrue};
+ghost use Rattle.std.specs.Prelude.{◌≡◌, ℕ, List, [], All, map, None, IfOk, IfErr, OnOk, IsTrue, IsFalse};
 ghost use Rattle.call_words.specs.FormatWords.{is_among, first_lacking};
 ghost use Rattle.call_words.specs.Views.{IsWindowAsked, window_of};
 ghost use Rattle.layer_api.specs.Drawable.{IsView};
@@ -9,14 +9,16 @@ ghost use Rattle.rule_model.specs.Tiling.{tiling_of};
 ghost use Rattle.window_cover.specs.Windows.{IsWindow};
 ghost use Rattle.tile_app.specs.BaseFrame.{IsBegun};
 ghost use Rattle.tile_app.specs.Draw.{view_of, Pictures, PrintsDraw, DrawRefuses};
-ghost use Rattle.tile_app.specs.LayerTexts.{FirstHasDrawn, IsTextOf};
+ghost use Rattle.tile_app.specs.LayerTexts.{HasDrawn, FirstHasDrawn, IsTextOf};
+ghost use Rattle.tile_app.specs.Looks.{HasPut};
 ghost use Rattle.tile_app.specs.Pictured.{picture_of, CanBePictured};
 ghost use Rattle.call_notes.specs.Status.{OrNoMemory};
 ghost use Rattle.tile_app.specs.Windows.{window_asked};
 
-use crate::drawn_tile::blank;
+use crate::drawn_tile::stand_in;
 use crate::glue_edges::GlueEdges;
 use crate::layers::place_of;
+use crate::looks::Looks;
 use crate::picture::Picture;
 use crate::whole_answer::WholeAnswer;
 use crate::window::window_in;
@@ -81,7 +83,35 @@ fn view_of(machine: &Machine, window: &Window) -> View
     }
 }
 
-/// Draws a picture through a layer, from beginning to end.
+/// Puts the tiles of a picture into a layer, as far as it looks at them.
+fn put_tiles<D: Layer>(
+    layer: &mut D,
+    looks: Looks,
+    machine: &Machine,
+    picture: &Picture,
+) -> Result<(), NoMemory>
+    requires begun { IsTrue (D.begun layer.old) }
+    requires open { IsFalse (D.ended layer.old) }
+    requires none { D.draws layer.old [] }
+    requires its_order { (D.seen layer.old).order ≡ machine.now.order }
+    requires can { CanBePictured (tiling_of machine.now) picture.now }
+    ensures put { OnOk result (HasPut (D.draws layer.new) looks
+        (picture_of (tiling_of machine.now) picture.now)) }
+    ensures seen { D.seen layer.new ≡ D.seen layer.old }
+    ensures begun { IsTrue (D.begun layer.new) }
+    ensures open { IsFalse (D.ended layer.new) }
+    ensures form { D.form layer.new ≡ D.form layer.old }
+{
+    let mut drawn = stand_in();
+    for place in 0..picture.len() {
+        picture.put(&mut drawn, looks, machine, place);
+        layer.put_copy(&drawn)?;
+    }
+    Ok(())
+}
+
+/// Draws a picture through a layer, from beginning to end. The layer gets all that the tiles have if it
+/// needs all, and otherwise at least what the text of its format depends on.
 fn draw<D: Layer>(
     layer: &mut D,
     machine: &Machine,
@@ -91,17 +121,15 @@ fn draw<D: Layer>(
     requires view { IsView view }
     requires its_order { view.order ≡ machine.now.order }
     requires can { CanBePictured (tiling_of machine.now) picture.now }
-    ensures drawn { OnOk result (D.draws layer.new (picture_of (tiling_of machine.now) picture.now)) }
-    ensures ended { OnOk result (IsTrue (D.ended layer.new)) }
-    ensures seen { D.seen layer.new ≡ view }
+    ensures drawn { OnOk result (HasDrawn D.form D.seen D.ended D.draws view
+        (picture_of (tiling_of machine.now) picture.now) layer.new) }
+    ensures whole { OnOk result (IsTrue (D.needs_all layer.old)
+        → D.draws layer.new (picture_of (tiling_of machine.now) picture.now)) }
     ensures form { D.form layer.new ≡ D.form layer.old }
 {
+    let looks = Looks::of(layer.looks_at_all(), layer.format());
     layer.begin(view);
-    let mut drawn = blank();
-    for place in 0..picture.len() {
-        picture.fill(&mut drawn, machine, place);
-        layer.put_copy(&drawn)?;
-    }
+    put_tiles(layer, looks, machine, picture)?;
     layer.end()
 }
 

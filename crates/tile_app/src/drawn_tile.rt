@@ -1,6 +1,7 @@
 //! Tiles and whole tiles, ready to be drawn.
 ghost use Rattle.std.specs.Prelude.{◌≡◌, ◌+◌, ◌<◌, ◌≤◌, All, Some, drop, length, map, take};
 ghost use Rattle.cyclo_points.specs.Motion.{motion_in};
+ghost use Rattle.cyclo_points.specs.declared.order.Order.{Order};
 ghost use Rattle.cyclo_points.specs.Order.{points_of};
 ghost use Rattle.half_glue.specs.Outline.{glue_edge_of, begun_behind, inner_of, vertices_in_place, outline_by, outline_of};
 ghost use Rattle.layer_api.specs.Drawable.{IsNear, IsDrawable};
@@ -20,22 +21,29 @@ use layer_api::part::Part;
 use tile_place::machine::Machine;
 use tile_shape::address::Address;
 
-/// Makes an empty tile, to be filled.
-pub fn blank() -> Drawn {
-    Drawn {
-        class: 0,
-        outline: ArrayVec::new(),
-        first: blank_part(),
-        second: None,
-    }
-}
-
 /// Makes an empty part, to be filled.
 pub fn blank_part() -> Part {
     Part {
         kind: 0,
         motion: Motion::default(),
         addr: Address::new(0),
+    }
+}
+
+/// Makes a tile that may be put into a layer: its three vertices are the origin.
+pub fn stand_in() -> Drawn
+    ensures { (order : Order) → IsDrawable order result }
+{
+    let origin = Point { c: [0, 0, 0, 0] };
+    let mut outline = ArrayVec::new();
+    outline.push(origin);
+    outline.push(origin);
+    outline.push(origin);
+    Drawn {
+        class: 0,
+        outline,
+        first: blank_part(),
+        second: None,
     }
 }
 

@@ -15,6 +15,7 @@ mod file;
 mod file_kind;
 mod glue_edges;
 mod layers;
+mod looks;
 mod neighbour;
 mod picture;
 mod place;

@@ -1,4 +1,4 @@
-//! Layers that refuse one of their calls, and layers counted as they are dropped.
+//! Layers that refuse one of their calls or some tiles, and layers counted as they are dropped.
 use crate::drawings::{Layers, comes_to};
 use crate::wrong::Wrong;
 use layer_list::census_layer::CensusLayer;
@@ -8,6 +8,7 @@ use std::alloc::Global;
 use std::rc::Rc;
 use tile_shape::no_memory::NoMemory;
 use trial_refusing_layer::counted::Counted;
+use trial_refusing_layer::particular::Particular;
 use trial_refusing_layer::refusing::Refusing;
 
 /// A layer of each format, counted by a token. The one that lists refuses its call of this number.
@@ -57,6 +58,19 @@ fn pair(alloc: Global, first: u32, second: u32) -> Result<Layers, NoMemory> {
     Ok(layers)
 }
 
+/// The vertices that a census takes for a tile, and what two chairs come to. They have eight.
+static VERTICES: [(usize, &str); 2] = [(8, "0 0 2\nall 2\n|"), (3, "11 |11 NoMemory\n")];
+
+/// Returns true if a call comes to this with a census that takes only tiles with so many vertices.
+fn is_whole(alloc: Global, vertices: usize, wanted: &str) -> Result<bool, NoMemory> {
+    let line = "draw rule=chair seed=42 addr=0: at=1,1,0,0 half=2,1 layers=census";
+    let token = Rc::new(alloc, 0u8)?;
+    let census = Particular::new(CensusLayer::new(alloc), vertices);
+    let mut layers: Layers = Vec::new(alloc);
+    layers.push(Box::new(alloc, Counted::new(census, token))?)?;
+    Ok(comes_to(alloc, line, layers, wanted))
+}
+
 /// Notes the first refused call that comes out otherwise.
 pub fn note_refused(alloc: Global, wrong: &mut Wrong) {
     for (row, (refused, wanted)) in CALLS.iter().enumerate() {
@@ -70,5 +84,9 @@ pub fn note_refused(alloc: Global, wrong: &mut Wrong) {
             Err(_) => false,
         };
         wrong.note("first of two", row, is_right);
+    }
+    for (row, (vertices, wanted)) in VERTICES.iter().enumerate() {
+        let is_right = is_whole(alloc, *vertices, wanted).unwrap_or(false);
+        wrong.note("tiles for a census that looks at all", row, is_right);
     }
 }

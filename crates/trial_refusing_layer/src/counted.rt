@@ -31,8 +31,14 @@ impl<L: Layer> Layer for Counted<L> {
 
     ghost draws = { λ s. L.draws s.layer };
 
+    ghost needs_all = { λ s. L.needs_all s.layer };
+
     fn format(&self) -> Format {
         self.layer.format()
+    }
+
+    fn looks_at_all(&self) -> bool {
+        self.layer.looks_at_all()
     }
 
     fn begin(&mut self, view: View) {

@@ -17,7 +17,7 @@ returns-clause-drawn g c =
     c.args.view (picture_of (tiling_of c.args.machine.now) c.args.picture.now) c.args.layers.now c.unwrap-place.result c.draw.new.layer
     (subst (λ o. IfSome o (λ i. i < length c.args.layers.now)) c.unwrap-place.ensures c.place_of.ensures.inside)
     (map-set_same g.D.Layer.form c.args.layers.now c.unwrap-place.result c.draw.new.layer c.index-layers-place.result c.draw.ensures.form)
-    (record { its_view = c.draw.ensures.seen; has_ended = c.in_ok-draw.ensures.ended; its_picture = c.in_ok-draw.ensures.drawn })
+    c.in_ok-draw.ensures.drawn
     c.args.format (sym c.place_of.ensures.first ∙ c.unwrap-place.ensures)
 
 pub returns-clause-others : goal.returns-clause-others
@@ -26,4 +26,4 @@ returns-clause-others g c =
     c.args.view (picture_of (tiling_of c.args.machine.now) c.args.picture.now) c.args.layers.now c.unwrap-place.result c.draw.new.layer
     (subst (λ o. IfSome o (λ i. i < length c.args.layers.now)) c.unwrap-place.ensures c.place_of.ensures.inside)
     (map-set_same g.D.Layer.form c.args.layers.now c.unwrap-place.result c.draw.new.layer c.index-layers-place.result c.draw.ensures.form)
-    (record { its_view = c.draw.ensures.seen; has_ended = c.in_ok-draw.ensures.ended; its_picture = c.in_ok-draw.ensures.drawn })
+    c.in_ok-draw.ensures.drawn
