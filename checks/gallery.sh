@@ -34,7 +34,7 @@ cmp -s "$here/tilings.html" "$there/tilings.html" || fault "tilings.html isn't w
 
 # the command of the README
 command=$(sed -n 's/^    \$ \(\.\/tiling draw .*> rhombs.svg\)$/\1/p' "$top/README.md")
-cp -rL "$top/tools" "$top/rules" "$work" && ln -s "$program" "$work/tiling" || exit 1
+cp -r "$top/tools" "$top/rules" "$work" && cp "$top/python/pagnetuf/svg.py" "$work/tools" && ln -s "$program" "$work/tiling" || exit 1
 (cd "$work" && sh -c "$command")
 count=$((count + 1))
 cmp -s "$here/drawn/rhombs.svg" "$work/rhombs.svg" || fault "the command of README.md draws another picture"

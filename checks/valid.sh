@@ -11,7 +11,7 @@ for file in /usr/share/xml/w3c-sgml-lib/schema/dtd/REC-SVG11-*/svg11.dtd; do [ !
 work=$(mktemp -d) || exit 1
 trap 'rm -rf "$work"' EXIT
 if [ -x "$program" ]; then
-    cp -rL "$top/tools" "$top/rules" "$work" && ln -s "$program" "$work/tiling" || exit 1
+    cp -r "$top/tools" "$top/rules" "$work" && cp "$top/python/pagnetuf/svg.py" "$work/tools" && ln -s "$program" "$work/tiling" || exit 1
     sed -n "s/^    \\\$ \\(\\.\\/tiling draw .*| sed '1a <style.*> rhombs.svg\\)\$/\\1/p" "$top/docs/PICTURES.md" > "$work/command"
     [ -s "$work/command" ] || { echo "valid: docs/PICTURES.md has no such command" >&2; exit 1; }
     (cd "$work" && sh ./command) || exit 1
