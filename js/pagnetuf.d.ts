@@ -11,8 +11,8 @@
 // the point 0, and then moved by `shift`. x points right, y up, and both count steps of length 1. Edge i runs from
 // corner i to the next, and corners are counterclockwise. All is counted from 0.
 //
-// Whatever the engine refuses is thrown as a Refusal. A value that is no whole number where one is wanted is a
-// TypeError, and so is a call of an engine that was closed.
+// Whatever the engine refuses is thrown as a Refusal. A value of a wrong type is a TypeError that names it, and so are
+// an option that a call doesn't have, and a call of an engine that was closed.
 
 /** Four whole numbers: a0 + a1 zeta + a2 zeta^2 + a3 zeta^3. */
 export type Point = [number, number, number, number];
@@ -78,7 +78,8 @@ export interface Frame {
 
 /** A window: the points whose X = 2 x and Y = y / sin(360°/order) differ from those of the point `at` by less than
  * the two numbers of `half`, each 1 to 4096. So it is half[0] lengths wide and 2 half[1] sin(360°/order) high. By
- * default [0, 0, 0, 0] and [20, 12]. `Tiling.pointNear` and `Tiling.halfFor` make both from lengths. */
+ * default [0, 0, 0, 0] and [20, 12]. `Tiling.pointNear` and `Tiling.halfFor` make both from lengths. A `Window`
+ * is a box, too. */
 export interface Box {
   at?: PointLike;
   half?: readonly [number, number];
@@ -123,7 +124,7 @@ export declare class Refusal extends Error {
   readonly status: number;
   /** What the command prints after the name; a field that is a whole number is a number. */
   readonly fields: (number | string)[];
-  /** The line of the command, such as "8 Outside 4 0". `message` has it with a sentence. */
+  /** The line of the command, such as "8 Outside 4 0". `message` has it with a sentence, and often what was given. */
   readonly line: string;
 }
 
@@ -133,19 +134,25 @@ export type Source = string | URL | BufferSource | Response | WebAssembly.Module
 /** One instance of the module, with a memory of its own. Any number of them may be open. */
 export declare class Engine {
   private constructor();
-  /** Makes an engine from tiling.wasm; without a source from the file beside this module. */
+  /** Makes an engine from tiling.wasm; without a source from the file beside this module. Whatever else is given is a
+   * TypeError. */
   static load(source?: Source | Promise<Source>): Promise<Engine>;
   /** The names of the built-in rules: chair, p2, p3, ab, halfhex. */
   static readonly builtIn: readonly string[];
+  /** The names of the rule files of the package, for `openFile`; rules/README.md of the repository describes them. */
+  static readonly ruleFiles: readonly string[];
   /** Opens a built-in rule by its name, or the rule file with this text or these bytes. It stays in memory until the
-   * engine is closed. Refusal BadWords: no rule has this name; RuleRefused, RuleTooLong, NoMemory. */
+   * engine is closed. Refusal BadWords: no built-in rule has this name; RuleRefused, RuleTooLong, NoMemory. */
   open(rule: string | Uint8Array): Tiling;
-  /** Reads a rule file and opens it: one of the package by its name, such as "sphinx", or that at a URL or path. */
+  /** Reads a rule file and opens it: that at a URL or path, or one of the package by its name, such as "sphinx", or as
+   * "sphinx.toml" if there is no other. Refusal as for `open`; BadWords: the package has no such name. */
   openFile(file: string | URL): Promise<Tiling>;
   /** All that the command does: what it prints for these arguments, with `input` as standard input. The arguments are
    * a list, or a text with spaces between them. Refusal: each of the command. */
   call(words: string | readonly string[], input?: string | Uint8Array): string;
-  /** Lets go of the instance. Patches keep their numbers; all other calls end with a TypeError. */
+  /** Lets go of the instance. Patches keep `kinds`, `turns`, `shifts`, `addresses`, `positions()`, and what they were
+   * asked for before. If that was `vertices()`, all that follows from corners works, too, such as `edges()`, `stars()`
+   * and pictures. All else, also the text of an address, ends with a TypeError. */
   close(): void;
   readonly closed: boolean;
   /** How many bytes of memory the instance has. It grows as calls need it, and never shrinks. */
@@ -227,7 +234,8 @@ export declare class Tiling {
    * DepthLimit; TooManyTiles above 200,000; CoordLimit far out, where another seed usually helps; NoMemory. */
   window(options?: WindowOptions): Window;
   /** n: 1 for each tile that meets a window, 0 for each other one. It is what decides which tiles `window` has, for
-   * tiles of any frame. Of whole tiles it looks at the first halves alone. Refusal BadWords. */
+   * tiles of any frame. Of whole tiles it looks at the first halves alone. A patch of another tiling is a TypeError.
+   * Refusal BadWords. */
   meets(tiles: Patch | Omit<Listing, "addresses">, window?: Box): Uint8Array;
   /** The only tile of a frame that holds a point. Refusal BadWords, BadAddress, CoordLimit, as for `window` there. */
   tileAt(point: PointLike, frame?: Frame): Named<string>;
@@ -239,7 +247,7 @@ export declare class Tiling {
   star<A extends AddressLike>(base: A, vertex: number, options?: { seed?: Seed }): Numbered<SameForm<A>>[];
   /** The number of tiles of a right listing of a window: tiles in any order, or a text as `draw` prints it, which is
    * for built-in rules alone. Refusal BadListing: its fields are the fault and where it is, which is the index of a
-   * tile, or the number of a line, from 1. */
+   * tile, or the number of a line, from 1. A patch of another tiling is a TypeError. */
   verify(listing: Patch | Listing | string, window?: Frame & Box): number;
   /** What the command `draw` prints of a window: a picture, a list, a census. Refusal as for `window`. */
   draw(options?: DrawOptions): string;
@@ -274,7 +282,8 @@ export interface Board {
 export interface SvgOptions {
   /** In pixels; 800 by default. */
   width?: number;
-  /** By kind, in the order of the kinds, or a function of a tile's number. */
+  /** A list goes to the kinds that occur in the patch, the first colour to the least. For one colour of a kind in every
+   * patch take a function of a tile's number: (tile, patch) => colours[patch.kinds[tile]]. */
   colours?: readonly string[] | ((tile: number, patch: Patch) => string);
   /** Whether each tile has its number as id, and its address and neighbours. */
   ids?: boolean;
@@ -294,7 +303,8 @@ export declare class Patch {
   readonly hasAddresses: boolean;
   /** 130 n: see AddressLike. A TypeError if they weren't wanted. */
   readonly addresses: Uint8Array;
-  /** The text of a tile's address; of a whole tile of two halves both, joined by " + ". */
+  /** The text of a tile's address; of a whole tile of two halves both, joined by " + ". A call takes one, as
+   * `WholePatch.halves` has them. */
   address(tile: number): string;
   tile(tile: number): Placed;
   /** The greatest number of corners of a tile here. */
@@ -332,10 +342,11 @@ export declare class Patch {
   vertexStars(): Int32Array;
   /** The tile that holds x, y, or -1. On an edge, that of the lesser number; computed in floats. */
   find(x: number, y: number): number;
-  /** The patch of some of its tiles. */
-  chosen(tiles: ArrayLike<number>): Patch;
-  /** The patch of `count` tiles, connected by edges, that grows from the tile nearest to x, y. A RangeError if fewer
-   * are connected. */
+  /** The patch of some of its tiles, each once, in the order in which the list first has them. A RangeError if there is
+   * no such tile. */
+  chosen(tiles: ArrayLike<number> | Iterable<number>): Patch;
+  /** The patch of `count` tiles, 1 at least, connected by edges, that grows from the tile nearest to x, y: by default
+   * the point `at` of the window from which the tiles are, its middle. A RangeError if fewer are connected. */
   connected(count: number, x?: number, y?: number): Patch;
   /** The supertiles of `level` levels that these tiles belong to, each once, as a patch; it needs addresses. A tile
    * whose address has fewer digits is left out. */
@@ -363,9 +374,10 @@ export declare class Window extends Patch {
 export declare class WholePatch extends Patch {
   /** n: 2 for two glued halves, else 1. */
   readonly parts: Uint8Array;
-  /** The halves of one whole tile, one or two. */
+  /** The halves of one whole tile, one or two. Of two the first has the tile's first edges: those that follow its glue
+   * edge (`Tiling.glueEdge`), in their order. Then come those that follow the glue edge of the second. */
   halves(tile: number): Named<string>[];
-  chosen(tiles: ArrayLike<number>): WholePatch;
+  chosen(tiles: ArrayLike<number> | Iterable<number>): WholePatch;
   connected(count: number, x?: number, y?: number): WholePatch;
 }
 

@@ -7,8 +7,18 @@
 
 const ABI = 2;
 const BUILT_IN = Object.freeze(["chair", "p2", "p3", "ab", "halfhex"]);
+const RULE_FILES = Object.freeze(`
+  ammann_beenker ammann_beenker_mirrored chair chair_squares domino_table equithirds fibonacci_rhombs half_chair
+  half_hex half_hex_halves half_square_four half_square_turned half_square_two half_triangle_three
+  l_tetromino_four p_pentomino_four paper_rectangle_two parallelogram_two penrose_p1 penrose_p2 penrose_p3
+  period_doubling_squares quadrant_chair rectangle_four rectangle_three rhomb_eight_four rhomb_six_four
+  rhomb_ten_four right_triangle_four robinson_kite_halves robinson_rhomb_halves robinson_rhomb_turned
+  rudin_shapiro_squares silver_mean_squares sphinx sphinx_nine square_four square_nine squiral_squares
+  table_squares thue_morse_squares triangle_four triangle_nine tromino_nine tuebingen_triangles
+`.trim().split(/\s+/));
 const MOST_TILES = 200000;
 const MOST_DIGITS = 64;
+const LONGEST_SHOWN = 400; // characters of a value in a message: an address of 64 digits is shown
 const FARTHEST = 2 ** 24; // a coefficient of what is computed
 const NAMES = {
   1: "NotText", 2: "BadWords", 3: "RuleRefused", 4: "BadAddress", 5: "DepthLimit", 6: "CoordLimit", 7: "TooManyTiles",
@@ -56,9 +66,9 @@ const SCRATCH = {
 const encoder = new TextEncoder(), decoder = new TextDecoder();
 
 export class Refusal extends Error {
-  constructor(line) {
+  constructor(line, more = "") {
     const [status, name, ...fields] = line.split(" ");
-    super(`${line}: ${SENTENCES[name] ?? "the engine refused"}`);
+    super(`${line}: ${SENTENCES[name] ?? "the engine refused"}${more && `: ${more}`}`);
     this.name = name;
     this.line = line;
     this.status = Number(status);
@@ -68,9 +78,35 @@ export class Refusal extends Error {
 
 // ---- values that people pass ------------------------------------------------------------------------------------
 
+// A value as a message shows it.
+function shown(value) {
+  if (typeof value === "function") return "a function";
+  if (typeof value === "bigint") return `${value}n`;
+  if (typeof value === "string") return JSON.stringify(shortened(value));
+  return shortened(Array.isArray(value) ? `[${value.map(shown)}]` : String(value));
+}
+
+const shortened = (text) => (text.length > LONGEST_SHOWN ? `${text.slice(0, LONGEST_SHOWN)}..` : text);
+
 function whole(value, what) {
-  if (!Number.isSafeInteger(value)) throw new TypeError(`${what} is a whole number, and not ${String(value)}`);
+  if (!Number.isSafeInteger(value)) throw new TypeError(`${what} is a whole number, and not ${shown(value)}`);
   return value;
+}
+
+function finite(value, what) {
+  if (!Number.isFinite(value)) throw new TypeError(`${what} is a number, and not ${shown(value)}`);
+  return value;
+}
+
+// Options, whose names must be known. A window stands for its own.
+function known(options, names, call) {
+  if (options instanceof Window) return { at: options.at, half: options.half, seed: options.seed, base: options.base };
+  if (typeof options !== "object" || !options) {
+    throw new TypeError(`the options of ${call} are an object, and not ${shown(options)}`);
+  }
+  const strange = Object.keys(options).find((name) => !names.includes(name));
+  if (strange !== undefined) throw new TypeError(`${call} has no option ${strange}, but ${names.join(", ")}`);
+  return options;
 }
 
 // A small number as the library takes it: one out of range is the greatest of its type, which the library refuses.
@@ -79,7 +115,7 @@ function small(value, what, most = 255) {
 }
 
 function fourOf(point, what) {
-  if (point?.length !== 4) throw new TypeError(`${what} has four whole numbers`);
+  if (point?.length !== 4) throw new TypeError(`${what} has four whole numbers, and is not ${shown(point)}`);
   return Array.from(point, (part) => whole(part, what) + 0);
 }
 
@@ -88,7 +124,8 @@ function halvesOf(seed) {
   if (Number.isSafeInteger(seed) && seed >= 0) return [seed >>> 0, Math.floor(seed / 2 ** 32)];
   const isHalf = (it) => Number.isInteger(it) && it >= 0 && it < 2 ** 32;
   if (seed?.length === 2 && isHalf(seed[0]) && isHalf(seed[1])) return [seed[0], seed[1]];
-  throw new TypeError("a seed is a whole number from 0 to 2^53 - 1, or its halves of 32 bits, the low one first");
+  const forms = "a whole number from 0 to 2^53 - 1, or its halves of 32 bits, the low one first";
+  throw new TypeError(`a seed is ${forms}, and not ${shown(seed)}`);
 }
 
 function seedText(seed) {
@@ -99,7 +136,7 @@ function seedText(seed) {
 const plus = (a, b) => Array.from(a, (part, i) => part + b[i]);
 
 function halfOf(half) {
-  if (half?.length !== 2) throw new TypeError("half has two whole numbers");
+  if (half?.length !== 2) throw new TypeError(`half has two whole numbers, and is not ${shown(half)}`);
   return [whole(half[0], "half"), whole(half[1], "half")];
 }
 
@@ -110,6 +147,26 @@ function textOf(address) {
   if (typeof address === "string") return address;
   const { kind, digits } = isBytes(address) ? objectOf(address) : address;
   return `${kind}:${digits.map(({ child, parent }) => `${child}/${parent}`).join()}`;
+}
+
+// The argument of a command that a refusal is about, for its message; "" if it doesn't say which.
+function blamed({ name, fields }, words) {
+  if (name === "BadWords") return shortened(words[fields[0]] ?? "");
+  const given = name === "BadAddress" ? words.find((word) => word.startsWith("addr=")) ?? "" : "";
+  return shortened(given) + (given.includes(" + ") ? ", which are two halves, of which a call takes one" : "");
+}
+
+// The names that have at least half of another's pairs of letters, the nearest first.
+function namesNear(name, names) {
+  const pairs = Array.from({ length: Math.max(0, name.length - 1) }, (_, i) => name.slice(i, i + 2).toLowerCase());
+  const score = (it) => pairs.filter((pair) => it.includes(pair)).length;
+  return names.filter((it) => score(it) && 2 * score(it) >= pairs.length).sort((a, b) => score(b) - score(a));
+}
+
+function unknownRule(call, name) {
+  const near = namesNear(name, RULE_FILES).slice(0, 5).join(", "), such = near && `, such as ${near}`;
+  const files = `openFile takes a path, a URL, or a name of Engine.ruleFiles${such}`;
+  return new Refusal("2 BadWords 1", `${call} knows no ${shown(name)}; open takes ${BUILT_IN.join(", ")}; ${files}`);
 }
 
 function objectOf(bytes) {
@@ -404,20 +461,47 @@ async function bytesAt(place) {
 
 // A file of the package; in a checkout it stands elsewhere.
 async function bytesOfFirst(places) {
-  for (const [i, place] of places.entries()) {
+  let first;
+  for (const place of places) {
     try {
       return await bytesAt(new URL(place, import.meta.url));
     } catch (trouble) {
-      if (i === places.length - 1) throw trouble;
+      first ??= trouble;
     }
   }
+  throw first;
+}
+
+// A rule file: that of the package with this name, or that at a URL or path.
+async function ruleAt(file) {
+  if (typeof file !== "string" && !(file instanceof URL)) {
+    throw new TypeError(`openFile takes a name, a URL or a path, and not ${shown(file)}`);
+  }
+  const [, name, ending] = /^(\w*)(\.toml)?$/.exec(file) ?? [], isKnown = RULE_FILES.includes(name);
+  const own = () => bytesOfFirst([`rules/${name}.toml`, `../rules/${name}.toml`]);
+  if (name !== undefined && !ending) return isKnown ? own() : Promise.reject(unknownRule("openFile", name));
+  return bytesAt(file).catch((trouble) => (isKnown ? own() : Promise.reject(trouble)));
 }
 
 async function moduleOf(source) {
   const given = await source;
   if (given === undefined) return bytesOfFirst(["tiling.wasm", "../.tiling/tiling.wasm"]);
   if (typeof given === "string" || given instanceof URL) return bytesAt(given);
-  return typeof given.arrayBuffer === "function" ? given.arrayBuffer() : given;
+  if (given?.ok === false) throw new Error(`${given.url || "the module"} can't be read: ${given.status}`);
+  return typeof given?.arrayBuffer === "function" ? given.arrayBuffer() : given;
+}
+
+// An instance of tiling.wasm, of its bytes or of the compiled module.
+async function instanceOf(module) {
+  const wanted = "Engine.load takes a URL, a path, the bytes, a response or the compiled module of tiling.wasm";
+  try {
+    const made = await WebAssembly.instantiate(module, {}), instance = made.instance ?? made;
+    if (instance.exports.tiling_abi) return instance;
+  } catch (trouble) {
+    const isWrong = [TypeError, WebAssembly.CompileError, WebAssembly.LinkError].some((it) => trouble instanceof it);
+    throw isWrong ? new TypeError(`${wanted}: ${trouble.message}`) : trouble;
+  }
+  throw new TypeError(`${wanted}, and not another module`);
 }
 
 export function ruleFile(name) {
@@ -441,10 +525,10 @@ export class Engine {
   }
 
   static builtIn = BUILT_IN;
+  static ruleFiles = RULE_FILES;
 
   static async load(source) {
-    const made = await WebAssembly.instantiate(await moduleOf(source), {});
-    return new Engine(HIDDEN, new Memory(made.instance ?? made));
+    return new Engine(HIDDEN, new Memory(await instanceOf(await moduleOf(source))));
   }
 
   open(rule) {
@@ -453,16 +537,14 @@ export class Engine {
   }
 
   async openFile(file) {
-    const isName = typeof file === "string" && /^\w+$/.test(file);
-    const places = [`rules/${file}.toml`, `../rules/${file}.toml`];
-    return this.open(isName ? await bytesOfFirst(places) : await bytesAt(file));
+    return this.open(await ruleAt(file));
   }
 
   #openName(name) {
     const memory = this.#memory, slot = memory.place("slot");
     const length = memory.putText(name, memory.place("text"), LONGEST);
     const status = length < 0 ? 2 : memory.calls.tiling_open(memory.place("text"), length, slot);
-    if (status) throw new Refusal(status === NO_MEMORY ? "11 NoMemory" : "2 BadWords 1");
+    if (status) throw status === NO_MEMORY ? new Refusal("11 NoMemory") : unknownRule("open", name);
     return new Tiling(HIDDEN, this, memory, memory.size(slot), name, null);
   }
 
@@ -490,7 +572,8 @@ export class Engine {
       try {
         return this.#answer([wordsAt, text.length, inputAt, given.length], note);
       } catch (refusal) {
-        if (refusal.name === "BadWords" && list[refusal.fields[0]]) refusal.message += `: ${list[refusal.fields[0]]}`;
+        const word = blamed(refusal, list);
+        if (word) refusal.message += `: ${word}`;
         throw refusal;
       }
     });
@@ -524,6 +607,8 @@ export class Engine {
 
 // ---- a rule -----------------------------------------------------------------------------------------------------
 
+const BOX = ["at", "half"], FRAME = ["seed", "base"];
+
 export class Tiling {
   #memory;
   #machine;
@@ -552,6 +637,15 @@ export class Tiling {
     if (status === NO_MEMORY || !words) throw new Refusal(`${status} ${NAMES[status]}`);
     this.engine.call(words.map((word) => (word === "rule" ? `rule=${this.name}` : word)), this.#file ?? "");
     throw new Refusal(`${status} ${NAMES[status]}`);
+  }
+
+  // Tiles of a patch must be of this rule, which may have been opened twice.
+  #mustHave(tiles) {
+    const other = tiles?.tiling;
+    if (!other || other === this || (other.name === this.name && this.name !== "-")) return;
+    if (JSON.stringify(other.rule()) === JSON.stringify(this.rule())) return;
+    const of = ({ name }, which) => (name === "-" ? `${which} rule file` : name);
+    throw new TypeError(`these tiles are of the tiling of ${of(other, "another")}, and not of ${of(this, "this")}`);
   }
 
   rule() {
@@ -687,7 +781,7 @@ export class Tiling {
       throw new TypeError("an address is a text, an object with kind and digits, or 130 bytes");
     }
     const { bytes } = memory, { digits } = address;
-    if (digits.length > MOST_DIGITS) throw new Refusal("4 BadAddress TooDeep");
+    if (digits.length > MOST_DIGITS) throw new Refusal("4 BadAddress TooDeep", shortened(textOf(address)));
     bytes[at] = small(address.kind, "a kind");
     bytes[at + 1] = digits.length;
     for (let i = 0; i < digits.length; i++) {
@@ -901,7 +995,9 @@ export class Tiling {
     return at;
   }
 
-  window({ at = [0, 0, 0, 0], half = [20, 12], seed = 0, base = "0:", addresses = true } = {}) {
+  window(options = {}) {
+    const given = known(options, [...BOX, ...FRAME, "addresses"], "window");
+    const { at = [0, 0, 0, 0], half = [20, 12], seed = 0, base = "0:", addresses = true } = given;
     const box = { at: fourOf(at, "at"), half: halfOf(half), seed, base };
     return new Window(HIDDEN, this, box, this.#covered(box, addresses));
   }
@@ -943,7 +1039,9 @@ export class Tiling {
     }
   }
 
-  meets(tiles, { at = [0, 0, 0, 0], half = [20, 12] } = {}) {
+  meets(tiles, window = {}) {
+    const { at = [0, 0, 0, 0], half = [20, 12] } = known(window, BOX, "meets");
+    this.#mustHave(tiles);
     const memory = this.#memory, count = tiles.kinds.length, box = { at: fourOf(at, "at"), half: halfOf(half) };
     return memory.borrow([TILE * count, count], (from, flags) => {
       memory.putTiles(from, tiles);
@@ -953,7 +1051,8 @@ export class Tiling {
     });
   }
 
-  tileAt(point, { base = "0:", seed = 0 } = {}) {
+  tileAt(point, options = {}) {
+    const { base = "0:", seed = 0 } = known(options, FRAME, "tileAt");
     const memory = this.#memory, tile = memory.place("tile"), address = memory.place("address");
     const at = memory.putPoint(memory.place("point"), fourOf(point, "a point"));
     const status = memory.calls.tiling_at(this.#machine, this.#putFrame(base, seed), at, tile, address);
@@ -961,7 +1060,8 @@ export class Tiling {
     return { ...memory.tile(tile), address: this.#text(address) };
   }
 
-  walk(base, path, { seed = 0, grow = 0 } = {}) {
+  walk(base, path, options = {}) {
+    const { seed = 0, grow = 0 } = known(options, ["seed", "grow"], "walk");
     const memory = this.#memory, edges = edgesOf(path), { length } = edges, count = length + 1;
     return memory.borrow([length, TILE * count, ADDRESS * count], (by, tiles, names) => {
       memory.bytes.set(edges, by);
@@ -977,7 +1077,8 @@ export class Tiling {
     return [command, "rule", `addr=${textOf(base)}`, `seed=${seedText(seed)}`];
   }
 
-  star(base, vertex, { seed = 0 } = {}) {
+  star(base, vertex, options = {}) {
+    const { seed = 0 } = known(options, ["seed"], "star");
     const memory = this.#memory, star = memory.place("star"), frame = this.#putFrame(base, seed);
     const status = memory.calls.tiling_star(this.#machine, frame, small(vertex, "a vertex"), star);
     if (status === NO_VERTEX) throw new Refusal(`15 NoVertex ${vertex} ${this.edges(memory.bytes[frame + 8])}`);
@@ -991,8 +1092,10 @@ export class Tiling {
     return { ...memory.tile(tile), address: this.#alike(form, address), number };
   }
 
-  verify(listing, { at = [0, 0, 0, 0], half = [20, 12], seed = 0, base = "0:" } = {}) {
+  verify(listing, window = {}) {
+    const { at = [0, 0, 0, 0], half = [20, 12], seed = 0, base = "0:" } = known(window, [...BOX, ...FRAME], "verify");
     const box = { at: fourOf(at, "at"), half: halfOf(half), seed, base };
+    this.#mustHave(listing);
     if (typeof listing !== "string") return this.#verifyTiles(listing, box);
     const words = this.drawWords({ ...box, layers: ["list"] }).filter((word) => !word.startsWith("layers="));
     return Number(this.engine.call(["verify", ...words.slice(1)], listing).split(" ")[1]);
@@ -1016,9 +1119,10 @@ export class Tiling {
   }
 
   drawWords(options = {}) {
-    const { at = [0, 0, 0, 0], half = [20, 12], seed = 0, base = "0:", layers = ["svg"] } = options;
+    const given = known(options, [...BOX, ...FRAME, "layers", "whole"], "draw");
+    const { at = [0, 0, 0, 0], half = [20, 12], seed = 0, base = "0:", layers = ["svg"] } = given;
     const place = [`seed=${seedText(seed)}`, `addr=${textOf(base)}`, `at=${fourOf(at, "at")}`, `half=${halfOf(half)}`];
-    const glue = options.whole && this.hasHalves ? ["glue=yes"] : [];
+    const glue = given.whole && this.hasHalves ? ["glue=yes"] : [];
     return ["draw", `rule=${this.name}`, ...place, ...glue, `layers=${layers.join()}`];
   }
 }
@@ -1141,8 +1245,8 @@ export class Patch {
   }
 
   index(tile) {
-    if (Number.isInteger(tile) && tile >= 0 && tile < this.length) return tile;
-    throw new RangeError(`the tiles are 0 to ${this.length - 1}, and not ${String(tile)}`);
+    if (whole(tile, "a tile") >= 0 && tile < this.length) return tile;
+    throw new RangeError(`the patch has ${this.length} tiles, counted from 0, and none is ${tile}`);
   }
 
   // ---- corners
@@ -1353,13 +1457,22 @@ export class Patch {
     return -1;
   }
 
+  // The numbers of some tiles, each once.
+  numbersOf(tiles) {
+    const isList = typeof tiles === "object" && (tiles?.[Symbol.iterator] || tiles?.length >= 0);
+    if (!isList) throw new TypeError(`chosen takes a list of numbers of tiles, and not ${shown(tiles)}`);
+    return Int32Array.from(new Set(Array.from(tiles, (tile) => this.index(tile))));
+  }
+
   chosen(tiles) {
-    const list = Int32Array.from(tiles, (tile) => this.index(tile));
+    const list = this.numbersOf(tiles);
     return new Patch(HIDDEN, this.tiling, list.length, chosenRows(this, this.#rows, list), this.origin);
   }
 
-  connected(count, x = 0, y = 0) {
-    return this.chosen(nearestConnected(this, count, x, y));
+  connected(count, x, y) {
+    const [left, low] = this.tiling.xy(this.origin.at);
+    if (whole(count, "a count of tiles") < 1) throw new TypeError(`a count of tiles is at least 1, and not ${count}`);
+    return this.chosen(nearestConnected(this, count, finite(x ?? left, "x"), finite(y ?? low, "y")));
   }
 
   supertiles(level) {
@@ -1565,7 +1678,7 @@ export class WholePatch extends Patch {
   }
 
   chosen(tiles) {
-    const list = Int32Array.from(tiles, (tile) => this.index(tile)), rows = { length: list.length };
+    const list = this.numbersOf(tiles), rows = { length: list.length };
     for (const [name, make] of Object.entries(this.#rows)) {
       const width = /addresses/i.test(name) ? ADDRESS : /shifts/i.test(name) ? 4 : 1;
       let kept;
@@ -1729,11 +1842,15 @@ const ENTITIES = { "&": "&amp;", "<": "&lt;", ">": "&gt;", '"': "&quot;" };
 const inFew = (value) => String(Math.round(value * 1e4) / 1e4 + 0);
 const escaped = (text) => String(text).replace(/[&<>"]/g, (letter) => ENTITIES[letter]);
 
-function svgOf(patch, { width = 800, colours = COLOURS, ids = false } = {}) {
+function svgOf(patch, options = {}) {
+  const { width = 800, colours = COLOURS, ids = false } = known(options, ["width", "colours", "ids"], "toSVG");
   const box = boxOf(patch.xy()), tall = Math.round((width * box[3]) / box[2]);
   const kinds = [...new Set(patch.kinds)].sort((a, b) => a - b);
   const byKind = (tile) => colours[kinds.indexOf(patch.kinds[tile]) % colours.length];
   const colourOf = typeof colours === "function" ? colours : byKind;
+  if (colourOf === byKind && !Array.isArray(colours)) {
+    throw new TypeError(`colours are a list or a function, and not ${shown(colours)}`);
+  }
   return [
     `<svg xmlns="http://www.w3.org/2000/svg" viewBox="${box.map(inFew).join(" ")}" width="${width}" height="${tall}">`,
     '<g stroke="#222" stroke-width=".04" stroke-linejoin="round">',
@@ -1758,6 +1875,7 @@ function boxOf(xy) {
 }
 
 function polygonText(patch, tile, colour, hasId) {
+  if (typeof colour !== "string") throw new TypeError(`the colour of tile ${tile} is a text, and not ${shown(colour)}`);
   const points = patch.polygon(tile).map(([x, y]) => `${inFew(x)},${inFew(-y)}`);
   const look = `fill="${escaped(colour)}" points="${points.join(" ")}"`;
   if (!hasId) return `<polygon ${look}/>`;

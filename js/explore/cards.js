@@ -1,5 +1,5 @@
 // Cards over the picture: one of them is open at a time, besides that of the tile.
-import { byId, picture } from "./page.js";
+import { byId, onEscape, picture } from "./page.js";
 
 const CARDS = ["tilings", "look", "places", "save", "help"];
 const openers = (name) => document.querySelectorAll(`[aria-controls="${name}"]`);
@@ -13,10 +13,10 @@ export class Cards {
     for (const name of CARDS) {
       for (const button of openers(name)) button.addEventListener("click", () => this.toggle(name, button));
       byId(name).querySelector(".close").addEventListener("click", () => this.close(true));
-      byId(name).addEventListener("keydown", (event) => event.key === "Escape" && this.close(true));
+      onEscape(byId(name), () => this.close(true));
     }
     byId("fault").querySelector(".close").addEventListener("click", () => this.closeFault());
-    byId("fault").addEventListener("keydown", (event) => event.key === "Escape" && this.closeFault());
+    onEscape(byId("fault"), () => this.closeFault());
   }
 
   toggle(name, button) {

@@ -102,9 +102,14 @@ export function knownName(text) {
 
 export const TILING_COUNT = BY_NAME.size;
 
-/** What a tile of a kind is called. */
-export function tileName(tiling, kind, isWhole) {
+/** The name of a kind of whole tiles, if it has one. */
+export function kindName(tiling, kind, isWhole) {
   const known = tilingNamed(tiling).kinds?.[kind];
-  if (known && isWhole) return known[0].toUpperCase() + known.slice(1);
-  return `Tile of kind ${kind}`;
+  return known && isWhole ? known[0].toUpperCase() + known.slice(1) : undefined;
 }
+
+/** What a star is called: the most frequent one has the number 0, and is the first. */
+export const starName = (number) => `Star ${number + 1}`;
+
+/** What a tile of a kind is called. */
+export const tileName = (tiling, kind, isWhole) => kindName(tiling, kind, isWhole) ?? `Tile of kind ${kind}`;

@@ -1,5 +1,6 @@
 // The card with what the tiling looks like: colours, whole tiles or halves, lines, supertiles.
-import { PALETTES, chosenBy, classesOf, coloursOf } from "./palettes.js";
+import { PALETTES, chosenBy, classesOf, coloursOf, hasOwn } from "./palettes.js";
+import { kindName, starName } from "./catalogue.js";
 import { byId, element } from "./page.js";
 
 const HINTS = {
@@ -8,7 +9,7 @@ const HINTS = {
   child: "The colour shows which child of its supertile a tile is.",
   star: "The colour shows the rarest star at a tile’s corners.",
 };
-const CLASS = { kind: "Kind", turn: "Turn", child: "Child", star: "Star" };
+const CLASS = { turn: "Turn", child: "Child" };
 const MOST_WELLS = 24;
 
 export class LookCard {
@@ -43,6 +44,7 @@ export class LookCard {
     check("by", by);
     check("whole", state.isWhole ? "whole" : "halves");
     check("palette", state.palette);
+    if (hasOwn(state, by)) this.unmark();
     byId("by-hint").textContent = HINTS[by];
     byId("tiles-as").hidden = !told.hasHalves;
     byId("lines").checked = state.lines;
@@ -51,11 +53,16 @@ export class LookCard {
     this.showWells(by);
   }
 
+  /** Own colours are of no palette, so that each palette can be chosen then. */
+  unmark() {
+    document.querySelectorAll('input[name="palette"]').forEach((radio) => (radio.checked = false));
+  }
+
   /** A well for each colour. Those that are there stay, so that one in use isn't closed. */
   showWells(by) {
     const { state, told } = this.app, classes = classesOf(state, told).slice(0, MOST_WELLS),
         colours = coloursOf(state, told);
-    const key = `${by} ${classes}`, wells = byId("wells");
+    const key = `${state.tiling} ${state.isWhole} ${by} ${classes}`, wells = byId("wells");
     if (wells.dataset.key !== key) wells.replaceChildren(...classes.map((number) => this.well(by, number)));
     wells.dataset.key = key;
     classes.forEach((number, i) => (wells.children[i].querySelector("input").value = colours[number]));
@@ -67,6 +74,13 @@ export class LookCard {
       const own = new Map(this.app.state.own);
       this.app.change({ own: own.set(by[0] + number, input.value) });
     });
-    return element("label", {}, `${CLASS[by]} ${number}`, input);
+    return element("label", {}, this.className(by, number), input);
+  }
+
+  /** What a class of tiles is called: kinds as the tile's card calls them. */
+  className(by, number) {
+    const { tiling, isWhole } = this.app.state;
+    if (by === "kind") return kindName(tiling, number, isWhole) ?? `Kind ${number}`;
+    return by === "star" ? starName(number) : `${CLASS[by]} ${number}`;
   }
 }

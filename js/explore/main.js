@@ -6,7 +6,7 @@ import { Gestures } from "./gestures.js";
 import { HelpCard } from "./help-card.js";
 import { LookCard } from "./look-card.js";
 import { Marks } from "./marks.js";
-import { byId, say } from "./page.js";
+import { byId, isTyped, say } from "./page.js";
 import { chosenBy, coloursOf, paletteNamed } from "./palettes.js";
 import { PlacesCard } from "./places-card.js";
 import { SaveCard } from "./save-card.js";
@@ -59,6 +59,7 @@ class Explorer {
     byId("zoom-in").addEventListener("click", () => this.zoom(1.4, 0, 0));
     byId("zoom-out").addEventListener("click", () => this.zoom(1 / 1.4, 0, 0));
     byId("home").addEventListener("click", () => this.home());
+    addEventListener("keydown", (event) => this.keyAnywhere(event));
     addEventListener("hashchange", () => this.recall());
     addEventListener("dragover", (event) => this.dragged(event, true));
     addEventListener("dragleave", (event) => event.relatedTarget || this.dragged(event, false));
@@ -211,7 +212,7 @@ class Explorer {
     const start = { at: [0, 0, 0, 0], x: 0, y: 0, base: "0:", by: "", own: new Map() };
     Object.assign(state, start, { tiling: name, file: this.files.get(name) ?? "" });
     await this.useTiling();
-    this.menu.show();
+    this.menu.list();
     if (matchMedia("(max-width: 720px)").matches) this.cards.close(true);
   }
 
@@ -247,7 +248,13 @@ class Explorer {
     this.change({ at, x: 0, y: 0 });
   }
 
-  /** Keys of the tiling that don't move it; the answer is whether it is one. */
+  /** A key that nothing has answered yet, wherever the focus is. */
+  keyAnywhere(event) {
+    const isOther = event.ctrlKey || event.metaKey || event.altKey || isTyped(event.target);
+    if (!isOther && !event.defaultPrevented && this.key(event.key)) event.preventDefault();
+  }
+
+  /** Keys that don't move the tiling; the answer is whether it is one. */
   key(key) {
     const letter = key.toLowerCase(), card = KEYS[letter];
     if (card) this.cards.toggle(card, byId("tiling"));
@@ -295,9 +302,8 @@ class Explorer {
 
   showPointed(tile) {
     if (this.marks.kept || tile?.name === this.marks.pointed?.name) return;
-    this.marks.pointed = tile;
+    this.marks.point(tile);
     this.tileCard.show(null, tile);
-    this.marks.refresh();
   }
 
   leave() {

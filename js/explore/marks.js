@@ -29,6 +29,12 @@ export class Marks {
     this.isBlank = true;
   }
 
+  /** Marks a tile as the one that is pointed at, or none. */
+  point(tile) {
+    this.pointed = tile;
+    this.refresh();
+  }
+
   /** Made when there is something to mark: an empty canvas would only cost frames. */
   get pen() {
     return (this.ownPen ??= this.canvas.getContext("2d"));

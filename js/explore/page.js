@@ -13,6 +13,20 @@ export function element(tag, attributes = {}, ...inside) {
   return made;
 }
 
+/** Does something for Esc in an element; nothing else answers the key then. */
+export function onEscape(where, heard) {
+  where.addEventListener("keydown", (event) => {
+    if (event.key !== "Escape") return;
+    event.preventDefault();
+    heard();
+  });
+}
+
+const TYPED = "select, input:not([type=radio], [type=checkbox], [type=range], [type=color])";
+
+/** Whether keys are typed into an element. */
+export const isTyped = (where) => where instanceof Element && where.matches(TYPED);
+
 /** A drawing of polygons in lengths, y up, in a box around a middle: [{ outline, colour }]. */
 export function drawing(polygons, [x, y], label) {
   const corners = polygons.flatMap(({ outline }) => outline);
@@ -50,7 +64,7 @@ export function say(words) {
   silence = setTimeout(() => (note.hidden = true), 2500);
 }
 
-/** Gives the reader a file. */
+/** Gives the reader a file, and says so. */
 export function saveFile(name, content, type) {
   const blob = content instanceof Blob ? content : new Blob([content], { type });
   const url = URL.createObjectURL(blob), link = element("a", { href: url, download: name });
@@ -58,6 +72,7 @@ export function saveFile(name, content, type) {
   link.click();
   link.remove();
   setTimeout(() => URL.revokeObjectURL(url), 60000);
+  say(`${name} saved`);
 }
 
 /** Copies a text, also where the page may not use the clipboard by itself. */

@@ -46,6 +46,9 @@ function stepsOf(colours) {
 /** What the colours of tiles are by: what was chosen, or what is usual for the tiling. */
 export const chosenBy = (state, told) => state.by || told.classes[state.isWhole].usual;
 
+/** Whether some of the colours that tiles have by this are the reader's own. */
+export const hasOwn = (state, by) => [...state.own.keys()].some((key) => key[0] === by[0]);
+
 /** The colour of each class of tiles, of the palette or the reader's own. */
 export function coloursOf(state, told) {
   const by = chosenBy(state, told), found = paletteColours(paletteNamed(state.palette), by, state, told);

@@ -1,7 +1,7 @@
 // The card with places to go to: the start, far away, stars, points, seeds.
 import { isAddress, isSeed, pointOf } from "./state.js";
 import { byId, drawing, element, say, withSign } from "./page.js";
-import { tileName } from "./catalogue.js";
+import { starName, tileName } from "./catalogue.js";
 
 const FAR = 1000000, SIDEWAYS = 40000, TRIES = 12;
 
@@ -43,7 +43,9 @@ export class PlacesCard {
     this.app.jump(at);
   }
 
-  base(base) {
+  /** The tile with this address is the first one; of a whole tile it is the first half. */
+  base(text) {
+    const [base] = text.split(" + ");
     if (!isAddress(base)) return say("An address is a kind, a colon, and digits such as 1/0,2/0.");
     this.app.change({ base, at: [0, 0, 0, 0], x: 0, y: 0 });
   }
@@ -64,16 +66,16 @@ export class PlacesCard {
   async findStars() {
     const { app } = this, stars = await app.ask("stars", { look: app.lookNow(), view: app.viewNow() });
     byId("find-stars").textContent = "Find the stars again";
-    if (stars) byId("star-list").replaceChildren(...stars.map((star, i) => this.starButton(star, i + 1)));
+    if (stars) byId("star-list").replaceChildren(...stars.map((star) => this.starButton(star)));
   }
 
-  starButton(star, number) {
+  starButton(star) {
     const { app } = this, colours = app.coloursNow(), share = `${(100 * star.share).toFixed(1)} %`,
-        words = this.wordsOf(star);
+        words = `${starName(star.number)}: ${this.wordsOf(star)}`;
     const picture = drawing(star.tiles.map((it) => ({ ...it, colour: colours[it.class % colours.length] })),
         star.place, "");
     picture.setAttribute("aria-hidden", "true");
-    return element("button", { "aria-label": `Star ${number}: ${words}, ${share}`, title: words,
+    return element("button", { "aria-label": `${words}, ${share}`, title: words,
         onclick: () => app.goToStar(star) }, picture, share);
   }
 

@@ -1,6 +1,6 @@
 // The card about a tile: its address, its neighbours, and the star at its nearest corner.
 import { tileName, tilingNamed } from "./catalogue.js";
-import { byId, copyText, drawing, element, withSign } from "./page.js";
+import { byId, copyText, drawing, element, onEscape, withSign } from "./page.js";
 
 /** A text of the engine, which may be broken in lines after its commas. */
 function code(text) {
@@ -29,7 +29,7 @@ export class TileCard {
     this.app = app;
     this.element = byId("tile");
     byId("tile").querySelector(".close").addEventListener("click", () => app.keep(null));
-    byId("tile").addEventListener("keydown", (event) => event.key === "Escape" && app.keep(null));
+    onEscape(byId("tile"), () => app.keep(null));
   }
 
   /** Shows a tile that is kept, else one that is pointed at, else nothing. */
@@ -67,9 +67,11 @@ export class TileCard {
         element("dl", { class: "facts" }, ...rows), ...(isShorter ? [hint] : []));
   }
 
-  link({ name, middle }, text) {
-    const go = () => this.app.goToTile(middle);
-    return element("button", { class: "link", title: name, onclick: go }, code(text));
+  /** A button that goes to a neighbour, and marks it while the pointer or the focus is there. */
+  link(edge, text) {
+    const { app } = this, mark = () => app.marks.point(edge), unmark = () => app.marks.point(null);
+    return element("button", { class: "link", title: edge.name, onclick: () => app.goToTile(edge.middle),
+        onpointerenter: mark, onpointerleave: unmark, onfocus: mark, onblur: unmark }, code(text));
   }
 
   star({ star, name, corner }) {

@@ -15,7 +15,8 @@ export class TilingsCard {
     this.line = Promise.resolve();
     this.watch = new IntersectionObserver((seen) => this.seen(seen), { root: byId("tiling-list") });
     byId("search").placeholder = `Search ${TILING_COUNT} tilings`;
-    byId("search").addEventListener("input", () => this.show());
+    byId("search").addEventListener("input", () => this.list());
+    byId("search").addEventListener("keydown", (event) => event.key === "Enter" && this.chooseFirst());
     byId("open-file").addEventListener("click", () => byId("file").click());
     byId("file").addEventListener("change", () => {
       openFile(byId("file").files[0]);
@@ -29,7 +30,18 @@ export class TilingsCard {
     this.pictures.delete(name);
   }
 
+  /** Shows all tilings: what was searched before is forgotten. */
   show() {
+    byId("search").value = "";
+    this.list();
+  }
+
+  chooseFirst() {
+    byId("tiling-list").querySelector(".choice")?.click();
+  }
+
+  /** Lists the tilings that have the word that is searched. */
+  list() {
     const wanted = byId("search").value.trim().toLowerCase();
     const fits = ({ name, title, note }) => `${name} ${title} ${note}`.toLowerCase().replaceAll("–", "-")
         .includes(wanted.replaceAll("–", "-"));

@@ -1,48 +1,46 @@
 """Aperiodic substitution tilings, exactly: places, neighbours, windows, stars, pictures. Begin with
-`help(Tiling)`."""
+`help(Tiling)`. A module, and numpy with it, is imported when one of its names is first asked for."""
 import importlib
+import importlib.util
 import sys
 import typing
 
-try:
-    __import__("numpy")
-except ModuleNotFoundError:
+if importlib.util.find_spec("numpy") is None:
     NEEDED = f"pagnetuf needs numpy, which {sys.executable} doesn't have (Debian's package is python3-numpy)"
     if sys.argv[0] == "-m":  # a command: its user needs no traceback
         sys.exit(NEEDED)
-    raise ModuleNotFoundError(NEEDED, name="numpy") from None
-
-from .engine import ADDRESS, BUILT_IN, TILE, Box, Engine, Frame, Machine
-from .geometry import Ring
-from .library import LibraryEngine, usual_engine
-from .patch import Patch, Tile, WholePatch
-from .refusals import (
-    BadAddress,
-    BadListing,
-    BadScript,
-    BadWords,
-    CoordLimit,
-    DepthLimit,
-    NoEdge,
-    NoEngine,
-    NoMemory,
-    NoVertex,
-    Outside,
-    ReadFault,
-    Refusal,
-    RuleRefused,
-    RuleTooLong,
-    StarTooBig,
-    TooManyTiles,
-    WriteFault,
-)
-from .rule import Rule
-from .tiling import Across, Pairing, Placed, StarTile, Tiling, WalkTile, Window, call, rule_file
+    raise ModuleNotFoundError(NEEDED, name="numpy")
 
 if typing.TYPE_CHECKING:
+    from .engine import ADDRESS, BUILT_IN, TILE, Box, Engine, Frame, Machine
+    from .geometry import Ring
+    from .library import LibraryEngine, usual_engine
+    from .patch import Patch, Tile, WholePatch
     from .program import ProgramEngine, find_program
+    from .refusals import (
+        BadAddress,
+        BadListing,
+        BadScript,
+        BadWords,
+        CoordLimit,
+        DepthLimit,
+        NoEdge,
+        NoEngine,
+        NoMemory,
+        NoVertex,
+        Outside,
+        ReadFault,
+        Refusal,
+        RuleRefused,
+        RuleTooLong,
+        StarTooBig,
+        TooManyTiles,
+        WriteFault,
+    )
+    from .rule import Rule
     from .sheet import Sheet
     from .symmetry import Place, symmetric_place
+    from .tiling import Across, Pairing, Placed, StarTile, Tiling, WalkTile, Window, call, rule_file
     from .trails import strokes
 
 __version__ = "0.2.0"
@@ -96,22 +94,35 @@ __all__ = [
     "Window",
     "WriteFault",
 ]
-# the modules of names that most users never need, which are imported when they are asked for
-_LATER = {
-    "find_program": "program",
-    "Place": "symmetry",
-    "ProgramEngine": "program",
-    "Sheet": "sheet",
-    "strokes": "trails",
-    "symmetric_place": "symmetry",
+# where each name comes from
+_NAMES = {
+    "engine": "ADDRESS BUILT_IN TILE Box Engine Frame Machine",
+    "geometry": "Ring",
+    "library": "LibraryEngine usual_engine",
+    "patch": "Patch Tile WholePatch",
+    "program": "ProgramEngine find_program",
+    "refusals": (
+        "BadAddress BadListing BadScript BadWords CoordLimit DepthLimit NoEdge NoEngine "
+        "NoMemory NoVertex Outside ReadFault Refusal RuleRefused RuleTooLong StarTooBig "
+        "TooManyTiles WriteFault"
+    ),
+    "rule": "Rule",
+    "sheet": "Sheet",
+    "symmetry": "Place symmetric_place",
+    "tiling": "Across Pairing Placed StarTile Tiling WalkTile Window call rule_file",
+    "trails": "strokes",
 }
+_MODULES = {name: module for module, names in _NAMES.items() for name in names.split()}
 
 
 def __getattr__(name: str) -> object:
-    if name not in _LATER:
+    if name in _NAMES:
+        return importlib.import_module(f".{name}", __name__)
+    if name not in _MODULES:
         raise AttributeError(f"module {__name__!r} has no attribute {name!r}")
-    return getattr(importlib.import_module(f".{_LATER[name]}", __name__), name)
+    globals()[name] = value = getattr(importlib.import_module(f".{_MODULES[name]}", __name__), name)
+    return value
 
 
 def __dir__() -> list[str]:
-    return [*globals(), *_LATER]
+    return sorted({*globals(), *_MODULES, *_NAMES})

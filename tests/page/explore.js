@@ -12,12 +12,25 @@ window.asked = {
     return performance.getEntriesByType("resource").filter((it) => !isOwn(it)).length;
   },
 
+  /** The button of the bar that opens a card. */
+  opener(card) {
+    return document.querySelector(`#bar [aria-controls="${card}"]`);
+  },
+
   /** Opens a card, fills a field of it, and submits its form. */
   fill(card, field, value) {
     explorer.cards.show(card);
     const input = document.getElementById(field);
     input.value = value;
     input.form.querySelector("[type=submit]").click();
+  },
+
+  /** Searches tilings for a word. */
+  search(word) {
+    const input = document.getElementById("search");
+    input.focus();
+    input.value = word;
+    input.dispatchEvent(new Event("input"));
   },
 
   /** Kind, turn, position and address of the tile at a place in pixels from the middle. */
@@ -74,6 +87,16 @@ window.asked = {
   hidden(id) {
     const { scrollHeight, clientHeight } = document.getElementById(id);
     return scrollHeight - clientHeight;
+  },
+
+  /** By how many pixels a control is narrower than its words need. */
+  cut(id) {
+    const control = document.getElementById(id), copy = control.cloneNode(true);
+    copy.style = "position: fixed; flex: none; width: max-content";
+    control.after(copy);
+    const missing = copy.offsetWidth - control.offsetWidth;
+    copy.remove();
+    return Math.max(0, missing);
   },
 
   box(id) {

@@ -266,6 +266,10 @@ def neighbours(page, known, tiles):
     links = page.js(f"{buttons}.map(it => [it.title, it.textContent])")
     page.same("the tiles that the card links to", [it[0] for it in links], told)
     own = page.js("explorer.marks.kept.name").split(" + ")[0]
+    page.js(f"{buttons}[0].dispatchEvent(new PointerEvent('pointerenter'))")
+    page.same("the neighbour that is marked", page.js("explorer.marks.pointed?.name"), told[0])
+    page.js(f"{buttons}[0].dispatchEvent(new PointerEvent('pointerleave'))")
+    page.true("none is marked after that", page.js("explorer.marks.pointed === null"))
     for name, said in links:
         page.same(f"{said} as an address", lengthened(said, own), name)
     page.browser.key("Escape")
@@ -303,6 +307,14 @@ def try_stars(page):
             "[...document.querySelectorAll('#star-list button')].map(it => it.getAttribute('aria-label'))"
         )
         page.same("different names", len(set(names)), count)
+        numbers = [f"Star {i + 1}" for i in range(count)]
+        page.same("numbers of stars", sorted(it.partition(":")[0] for it in names), numbers)
+        page.js("explorer.change({by: 'star'})")
+        page.js("explorer.cards.show('look')")
+        page.wait("document.querySelector('#wells label').textContent.startsWith('Star')")
+        wells = page.js("[...document.querySelectorAll('#wells label')].map(it => it.textContent)")
+        page.same("numbers of the colours of stars", wells, numbers)
+        page.js("explorer.change({by: ''})")
         shares = [float(re.search(r"([\d.]+) %", it)[1]) for it in names]
         page.true("the shares are 100 %", abs(sum(shares) - 100) < 0.1 * count)
         page.js("document.querySelectorAll('#star-list button')[2].click()")
@@ -414,6 +426,22 @@ def try_keys(page):
     )
     page.browser.key("Home")
     page.true("Home goes back", abs(page.place()[0]) < 1e-9)
+    page.browser.key("Enter")
+    page.wait("explorer.marks.kept")
+    page.js("asked.opener('look').focus()")
+    page.js("asked.opener('look').click()")
+    page.browser.key("Escape")
+    page.true("Escape closes the card first", page.js("document.getElementById('look').hidden"))
+    page.true("and keeps the tile", page.js("explorer.marks.kept !== null"))
+    page.true("the focus is beside the tiling", page.js("document.activeElement.id !== 'tiling'"))
+    page.browser.key("Escape")
+    page.true("a second Escape lets the tile go", page.js("explorer.marks.kept === null"))
+    for bare in ("true", "false"):
+        page.browser.key("f")
+        page.true("f works there too", page.js(f"document.body.classList.contains('bare') === {bare}"))
+    page.js("explorer.cards.show('tilings')")
+    page.browser.key("f")
+    page.true("f is a letter of a search", page.js("!document.body.classList.contains('bare')"))
 
 
 def try_address(page):
@@ -436,6 +464,12 @@ def try_address(page):
     page.press("home")
     page.ready()
     page.same("home", page.js("explorer.state.at.join()"), "0,0,0,0")
+    (whole, *_) = page.js("asked.tileAt(7, 11)")
+    page.true("the tile has two halves", " + " in whole)
+    page.js(f"asked.fill('places', 'base', '{whole}')")
+    page.same("the first tile by its address", page.js("explorer.state.base"), whole.split(" + ")[0])
+    page.ready()
+    page.true("it is drawn", page.js("document.getElementById('fault').hidden"))
 
 
 def try_saving(page):
@@ -457,6 +491,7 @@ def try_saving(page):
             page.same("what is copied", page.js("navigator.clipboard.readText()"), page.text("command"))
         page.press("save-svg")
         picture = page.saved(f"{name}.svg")
+        page.same("what the page says then", page.text("note"), f"{name}.svg saved")
         page.same("what is wrong with the picture", invalid(picture.decode()), "")
         root = ElementTree.fromstring(picture)
         box = [float(it) for it in root.get("viewBox").split()]
@@ -469,8 +504,17 @@ def try_saving(page):
             [],
         )
         page.same("the picture's width in lengths", round(box[2], 2), round(DESK[0] / 50, 2))
+    page.js("explorer.change({level: 2})")
+    page.press("save-svg")
+    picture = page.saved(f"{name}.svg")
+    page.same("what is wrong with a picture of supertiles", invalid(picture.decode()), "")
+    page.same("light lines around supertiles", picture.count(b'class="around"'), 1)
+    light, dark = (picture.find(b'class="%s"' % it) for it in (b"around", b"supertile"))
+    page.true("they are under the outlines", 0 < light < dark)
+    page.same("how much of the size is cut", page.js("asked.cut('png-size')"), 0)
     page.press("save-png")
     png = page.saved(f"{name}.png")
+    page.same("what the page says of it", page.text("note"), f"{name}.png saved")
     page.same(
         "the size of the PNG",
         [int.from_bytes(png[i : i + 4], "big") for i in (16, 20)],
@@ -501,6 +545,7 @@ def board(page):
     page.open(tiling="penrose_p3", seed=4, at="12,-3,0,0", scale=50)
     page.js("document.querySelector('#board-form button').click()")
     made = json.loads(page.saved("penrose_p3-board.json"))
+    page.same("what the page says of a board", page.text("note"), "penrose_p3-board.json saved")
     known = {it.name: it for it in listing("penrose_p3", 4, (12, -3, 0, 0), (30, 16), True)}
     tiles, vertices = made["tiles"], {it["id"]: complex(it["x"], it["y"]) for it in made["vertices"]}
     page.same("tiles of the board", len(tiles), 60)
@@ -554,6 +599,23 @@ def try_rules(page):
         for scale in (9.71, 41):
             page.same(f"pixels without a tile at {scale}", page.js(f"asked.gaps({scale})"), [0, name])
     page.true("no fault is shown", page.js("document.getElementById('fault').hidden"))
+
+
+def try_search(page):
+    """Enter opens the first tiling that is listed, and the menu opens again with all of them."""
+    page.open()
+    page.js("explorer.cards.show('tilings')")
+    page.js("asked.search('kites')")
+    first = page.js("document.querySelector('#tiling-list .choice').dataset.name")
+    page.browser.key("Enter")
+    page.wait(f"explorer.told.name === '{first}'")
+    page.same("the tiling that Enter opens", first, "penrose_p2")
+    page.same("the word stays", page.js("document.getElementById('search').value"), "kites")
+    page.js("explorer.cards.close(true)")
+    page.js("explorer.cards.show('tilings')")
+    page.same("the word is gone", page.js("document.getElementById('search').value"), "")
+    count = page.js("document.querySelectorAll('#tiling-list .choice').length")
+    page.same("tilings of the menu that opens again", count, len(RULES))
 
 
 def drawn_rule(path):
@@ -611,6 +673,21 @@ def try_colours(page):
     page.same(
         "a colour of one's own", {it[1] for it in page.js("asked.colours()") if it[0] == 0}, {"#123456"}
     )
+    page.js("explorer.cards.show('look')")
+    marked = "document.querySelector('input[name=palette]:checked')?.value ?? ''"
+    page.same("the palette that is marked with own colours", page.js(marked), "")
+    page.js("document.querySelector('input[name=palette][value=lake]').click()")
+    page.same("the palette that is chosen again", page.js(marked), "lake")
+    page.same("own colours after that", page.js("explorer.state.own.size"), 0)
+    page.open(tiling="penrose_p3")
+    page.js("explorer.cards.show('look')")
+    names = "[...document.querySelectorAll('#wells label')].map(it => it.textContent)"
+    page.same("names of colours", page.js(names), ["Thin rhomb", "Thick rhomb"])
+    page.js("explorer.chooseTiling('penrose_p2')")
+    page.wait("explorer.told.name === 'penrose_p2'")
+    page.same("names of colours of another tiling", page.js(names), ["Dart", "Kite"])
+    page.js("explorer.change({isWhole: false})")
+    page.same("names of halves", page.js(names), [f"Kind {i}" for i in range(4)])
 
 
 def try_looks(page):
@@ -655,6 +732,7 @@ ALL = (
     try_address,
     try_saving,
     try_rules,
+    try_search,
     try_files,
     try_colours,
     try_looks,

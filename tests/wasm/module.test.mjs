@@ -118,6 +118,107 @@ test("a value of a wrong type is a TypeError", () => {
   for (const call of wrong) assert.throws(call, TypeError, String(call));
 });
 
+// A TypeError whose message has these words.
+const wrongType = (call, words) => assert.throws(call, (fault) => fault instanceof TypeError && fault.message.includes(words));
+
+test("a TypeError names the argument, and shows it", () => {
+  const window = p3.window({ half: [6, 6] });
+  wrongType(() => p3.neighbour("2:", "1"), 'an edge is a whole number, and not "1"');
+  wrongType(() => p3.window({ half: 3 }), "half has two whole numbers, and is not 3");
+  wrongType(() => p3.window({ at: [1, "2"] }), 'at has four whole numbers, and is not [1,"2"]');
+  wrongType(() => p3.window({ seed: 5n }), "and not 5n");
+  for (const count of [-1, 0, 1.5, "20", undefined]) wrongType(() => window.connected(count), "a count of tiles");
+  wrongType(() => window.connected(2, "3"), 'x is a number, and not "3"');
+  wrongType(() => window.connected(2, 3, NaN), "y is a number, and not NaN");
+  wrongType(() => window.chosen((i) => i < 3), "chosen takes a list of numbers of tiles, and not a function");
+  for (const tiles of ["12", 5, null, undefined]) wrongType(() => window.chosen(tiles), "chosen takes a list");
+  wrongType(() => window.whole().chosen([0.5]), "a tile is a whole number, and not 0.5");
+  assert.throws(() => window.polygon(window.length), { name: "RangeError", message: /^the patch has \d+ tiles, counted from 0, and none is \d+$/ });
+});
+
+test("an option that a call doesn't have is a TypeError", () => {
+  const window = p3.window({ half: [6, 6] }), wrong = { halfs: [3, 3] };
+  wrongType(() => p3.window(wrong), "window has no option halfs, but at, half, seed, base, addresses");
+  const calls = [() => p3.meets(window, wrong), () => p3.verify(window, wrong), () => p3.draw(wrong), () => p3.tileAt([0, 0, 0, 0], wrong),
+    () => p3.walk("0:", [], wrong), () => p3.star("0:", 0, wrong), () => window.toSVG(wrong)];
+  for (const call of calls) wrongType(call, "has no option halfs");
+  wrongType(() => window.toSVG({ colors: ["red"] }), "toSVG has no option colors, but width, colours, ids");
+  wrongType(() => p3.window(null), "the options of window are an object, and not null");
+  assert.equal(p3.verify(window, window), window.length); // (a window has the options of its own)
+  assert.equal(p3.draw(window), p3.draw({ half: [6, 6] }));
+  assert.deepEqual(p3.window(p3.window({ half: [6, 6], addresses: false })).addresses, window.addresses);
+});
+
+test("chosen keeps each tile once, in the order of the list", () => {
+  const window = p3.window({ half: [6, 6] }), some = window.chosen([4, 1, 4, 1, 2]);
+  assert.deepEqual([0, 1, 2].map((i) => some.address(i)), [4, 1, 2].map((i) => window.address(i)));
+  assert.deepEqual([some.length, window.chosen(new Set([3, 5])).length, window.whole().chosen([1, 1]).length], [3, 2, 1]);
+});
+
+test("connected grows from the middle of the window, or from the place that is asked for", () => {
+  const window = p3.window({ at: [1000, 200, 0, 0], half: [12, 12] }), [x, y] = p3.xy(window.at);
+  const board = window.whole().connected(20), middle = window.find(x, y);
+  assert.ok(board.find(x, y) >= 0 && window.connected(1).address(0) === window.address(middle));
+  assert.deepEqual(window.connected(20).shifts, window.connected(20, x, y).shifts);
+  assert.deepEqual(window.chosen(window.kinds.keys()).connected(5).shifts, window.connected(5).shifts);
+  assert.notDeepEqual(window.connected(5, x - 8, y - 6).shifts, window.connected(5).shifts);
+});
+
+test("a refusal of an address echoes it, and says which are two", () => {
+  const joined = p3.window({ half: [4, 4] }).whole().address(0);
+  const calls = [["nonsense", () => p3.place("nonsense")], ["9:", () => p3.window({ base: "9:" })], ["9:", () => p3.star("9:", 0)], ["9:", () => p3.pair("2:", "9:")],
+    ["99:", () => p3.read({ kind: 99, digits: [] })], ["0:0/9", () => p3.neighbour("0:0/9", 0)], ["9:", () => engine.call("place rule=p3 addr=9:")]];
+  for (const [address, call] of calls) assert.throws(call, (it) => it.name === "BadAddress" && it.message.endsWith(`: addr=${address}`));
+  assert.throws(() => p3.place(joined), (it) => it.message.endsWith(`: addr=${joined}, which are two halves, of which a call takes one`));
+  assert.throws(() => p3.place("0:".padEnd(9999, "0/0,")), (it) => it.name === "BadAddress" && it.message.length < 600);
+  assert.ok(!p3.fits(joined));
+});
+
+test("tiles of another tiling are a TypeError", async () => {
+  const other = chair.window({ half: [4, 4] }), place = { half: [4, 4], seed: 3 };
+  wrongType(() => p3.verify(other), "these tiles are of the tiling of chair, and not of p3");
+  wrongType(() => p3.meets(other.chosen([0])), "these tiles are of the tiling of chair, and not of p3");
+  const again = engine.open("p3"), file = await engine.openFile("penrose_p3"), third = await engine.openFile("sphinx");
+  for (const tiling of [p3, again, file]) assert.equal(p3.verify(tiling.window(place), place), p3.window(place).length);
+  wrongType(() => file.meets(third.window(place)), "of the tiling of another rule file, and not of this rule file");
+});
+
+test("what Engine.load can't take is a TypeError that says what it takes", async () => {
+  const other = Uint8Array.of(0, 97, 115, 109, 1, 0, 0, 0);
+  for (const source of [null, 5, {}, new Uint8Array(8), other, WebAssembly.compile(other), readFileSync(new URL("rules/chair.toml", top))]) {
+    await assert.rejects(Engine.load(source), { name: "TypeError", message: /^Engine.load takes a URL, a path, the bytes, a response or the compiled module of tiling.wasm/ });
+  }
+  await assert.rejects(Engine.load({ ok: false, status: 404, url: "tiling.wasm" }), { message: "tiling.wasm can't be read: 404" });
+});
+
+test("a list of colours goes to the kinds that occur, and a colour is a text", () => {
+  const wholes = p3.window({ half: [6, 6] }).whole(), colours = ["#111111", "#222222"];
+  const fills = (patch, wanted) => [...patch.toSVG({ colours: wanted }).matchAll(/fill="([^"]*)"/g)].map((it) => it[1]);
+  assert.deepEqual(fills(wholes, colours), Array.from(wholes.kinds, (kind) => colours[kind / 2]));
+  const thick = wholes.chosen([...wholes.kinds.keys()].filter((i) => wholes.kinds[i] === 2));
+  assert.deepEqual(new Set(fills(thick, colours)), new Set(["#111111"]));
+  assert.deepEqual(new Set(fills(thick, (tile, patch) => colours[patch.kinds[tile] / 2])), new Set(["#222222"]));
+  wrongType(() => wholes.toSVG({ colours: () => undefined }), "the colour of tile 0 is a text, and not undefined");
+  wrongType(() => wholes.toSVG({ colours: [] }), "the colour of tile 0 is a text");
+  wrongType(() => wholes.toSVG({ colours: "red" }), 'colours are a list or a function, and not "red"');
+});
+
+test("the edges of a whole tile: after the first half's glue edge those of it, and then those of the second", () => {
+  for (const tiling of [p2, p3]) {
+    const wholes = tiling.window({ half: [6, 6] }).whole(), key = (points) => points.join();
+    for (let i = 0; i < wholes.length; i++) {
+      const halves = wholes.halves(i), own = halves.flatMap((half) => {
+        const corners = tiling.corners(half), count = tiling.edges(half.kind), glue = tiling.glueEdge(half.kind);
+        const steps = Array.from({ length: count - 1 }, (_, step) => (glue + 1 + step) % count);
+        return steps.map((edge) => key(corners.subarray(4 * edge, 4 * edge + 4)));
+      });
+      const outline = wholes.outlines().subarray(4 * i * wholes.most, 4 * (i * wholes.most + wholes.counts[i]));
+      assert.equal(halves.length, 2);
+      assert.deepEqual(Array.from({ length: wholes.counts[i] }, (_, corner) => key(outline.subarray(4 * corner, 4 * corner + 4))), own);
+    }
+  }
+});
+
 test("what the command prints", () => {
   assert.equal(engine.call(["place", "rule=chair", "addr=0:1/0,2/0"]), "0 1 7,1,0,0\n");
   assert.equal(engine.call("walk rule=chair seed=42 addr=0: path=0,3"), "0 0 0,0,0,0 0:3/0 -\n0 1 3,1,0,0 0:1/0 1\n0 1 4,0,0,0 0:0/0 0\n");
@@ -411,9 +512,11 @@ test("listings", () => {
   const reversed = window.chosen(Array.from({ length: window.length }, (_, i) => window.length - 1 - i));
   assert.equal(chair.verify(reversed, place), window.length);
   assert.equal(refusalOf(() => chair.verify(window.chosen([0, 1, 2]), place)), "17 BadListing Missing");
-  assert.equal(refusalOf(() => chair.verify(window.chosen([0, 1, 0]), place)), "17 BadListing Double 2");
   assert.equal(refusalOf(() => chair.verify(chair.window({ half: [6, 6], seed: 42 }), place)).replace(/\d+$/, "n"), "17 BadListing Stray n");
   const { kinds, turns, addresses } = window, shifts = window.shifts.slice();
+  const twice = { kinds: [0, 0], turns: [turns[0], turns[0]], shifts: [...shifts.slice(0, 4), ...shifts.slice(0, 4)] };
+  const double = { ...twice, addresses: [window.address(0), window.address(0)] };
+  assert.equal(refusalOf(() => chair.verify(double, place)), "17 BadListing Double 1");
   shifts[4] += 1;
   assert.equal(refusalOf(() => chair.verify({ kinds, turns, shifts, addresses }, place)), "17 BadListing WrongPlace 1");
   assert.match(refusalOf(() => chair.verify("", place)), /^17 BadListing Missing 0:/);
@@ -450,12 +553,20 @@ test("several engines, and one that is closed", async () => {
   const one = await Engine.load(bytes), other = await Engine.load(module), third = await Engine.load(Promise.resolve(bytes));
   const window = one.open("p3").window({ half: [6, 5], seed: 3 });
   const same = other.open("p3").window({ half: [6, 5], seed: 3 });
+  const asked = one.open("p3").window({ half: [6, 5], seed: 3 }), vertices = asked.vertices();
   one.close();
   one.close();
+  assert.equal(asked.vertices(), vertices);
+  assert.deepEqual([asked.edges(), asked.stars(), asked.xy()], [same.edges(), same.stars(), same.xy()]);
+  assert.deepEqual(asked.polygon(3), same.polygon(3));
   assert.ok(one.closed && !other.closed);
   assert.deepEqual(window.kinds, same.kinds);
   assert.deepEqual(window.addresses, same.addresses);
   assert.throws(() => window.tiling.place("0:"), /closed/);
+  assert.deepEqual(window.chosen([1]).shifts, same.chosen([1]).shifts);
+  assert.deepEqual(window.positions(), same.positions());
+  assert.throws(() => window.vertices(), /closed/);
+  assert.throws(() => window.address(0), /closed/);
   assert.throws(() => one.open("p3"), /closed/);
   assert.equal(third.call("check rule=p3"), other.call("check rule=p3"));
   assert.ok(third.memoryBytes > 1 << 20);
@@ -468,7 +579,17 @@ test("rule files", async () => {
   assert.equal(listed(sphinx.window()), listed(engine.open(new TextEncoder().encode(text)).window()));
   assert.equal((await engine.openFile(new URL("rules/sphinx.toml", top))).kinds, 2);
   assert.ok(ruleFile("sphinx").href.endsWith("/js/rules/sphinx.toml"));
-  await assert.rejects(engine.openFile("no_such_rule"));
+  assert.deepEqual(Engine.ruleFiles, readdirSync(new URL("rules/", top)).filter((it) => it.endsWith(".toml")).map((it) => it.slice(0, -5)).sort());
+  assert.equal((await engine.openFile("sphinx.toml")).kinds, 2);
+  await assert.rejects(engine.openFile("nowhere.toml"), /nowhere\.toml/);
+  const rejected = [["sphynx", "such as sphinx, sphinx_nine"], ["p3", "open takes chair, p2, p3, ab, halfhex"], ["p3", "such as penrose_p3"], ["", "Engine.ruleFiles"]];
+  for (const [name, words] of rejected) {
+    await assert.rejects(engine.openFile(name), (it) => it.line === "2 BadWords 1" && it.message.includes(`openFile knows no "${name}"; `) && it.message.includes(words));
+  }
+  await assert.rejects(engine.openFile(undefined), { name: "TypeError", message: /^openFile takes a name, a URL or a path, and not undefined$/ });
+  for (const name of ["sphinx", "penrose", ""]) {
+    assert.throws(() => engine.open(name), { line: "2 BadWords 1", message: new RegExp(`: open knows no "${name}"; open takes chair, p2, p3, ab, halfhex; openFile takes .*${name}`) });
+  }
   assert.match(refusalOf(() => sphinx.place("0:9/0")), /^4 BadAddress WrongChild 0$/);
   assert.equal(refusalOf(() => sphinx.window({ half: [4096, 4096] })), "7 TooManyTiles");
 });

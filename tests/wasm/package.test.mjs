@@ -27,6 +27,16 @@ test("npm pack has the module, the types, the engine and the rule files, and tak
   assert.ok(installed.equals(readFileSync(wasm)));
 });
 
+test("the first minute's commands of docs/JAVASCRIPT.md install the package, as they stand there", () => {
+  const page = readFileSync(new URL("docs/JAVASCRIPT.md", top), "utf8"), [, commands] = /## The first minute\n\n((?: {4}.*\n)+)/.exec(page);
+  run(copy, "env", "npm_config_offline=true", "npm_config_audit=false", "sh", "-ec", commands);
+  const installed = join(copy, "my-game/node_modules/pagnetuf");
+  writeFileSync(join(copy, "my-game/files.mjs"), `import { Engine, ruleFile } from "pagnetuf";
+    const engine = await Engine.load(), tilings = await Promise.all(Engine.ruleFiles.map((name) => engine.openFile(name)));
+    console.log(tilings.length, ruleFile("sphinx").href.endsWith("/pagnetuf/rules/sphinx.toml"));`);
+  assert.equal(run(join(copy, "my-game"), "node", "files.mjs"), `${readdirSync(join(installed, "rules")).length} true\n`);
+});
+
 test("the examples of docs/JAVASCRIPT.md print what stands below them", () => {
   const page = readFileSync(new URL("docs/JAVASCRIPT.md", top), "utf8");
   const examples = [...page.matchAll(/^```js\n([\s\S]*?)^```\n(?:\n```text\n([\s\S]*?)^```\n)?/gm)];

@@ -8,5 +8,5 @@ pub mod Does
 pub mod Refuses
 pub mod Script
 pub mod Views
-pub mod Calculation
 pub mod Compiled
+pub mod Calculation

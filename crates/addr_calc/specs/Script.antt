@@ -1,5 +1,5 @@
 -- The text that a script prints, or the fault of its first line that has one.
-use Rattle.std.specs.Prelude.{◌≡◌, ◌⊎◌, ℕ, ◌+◌, List, [], ◌∷◌, ◌++◌, Result, Ok, Err, Vec}
+use Rattle.std.specs.Prelude.{◌≡◌, ◌⊎◌, ℕ, ◌+◌, List, [], ◌∷◌, ◌++◌, Result, Ok, Err, IfOk, IfErr, Vec}
 use Rattle.cyclo_points.specs.Text.{newline}
 use Rattle.rule_model.specs.Tiling.{Tiling}
 use Rattle.addr_calc.specs.Bindings.{Bindings, none_bound}
@@ -41,6 +41,12 @@ LineOrNoMemory P fault = P fault
 abbrev pub IsOrNoMemory : Outcome → Outcome → Type 0
 IsOrNoMemory (Err NoMemory) outcome = Unit {0}
 IsOrNoMemory answer outcome = answer ≡ outcome
+
+-- the text is what the script prints, and a fault is that of the first line that has one
+pub record AnswersScript {A : Type 0} (t : Tiling) (script : List ℕ)
+    (result : Result (Vec ℕ A) CalcFault) : Type 0 where
+  pub ran : IfOk result (λ text. IsOutcome t script (Ok text.items))
+  pub fault : IfErr result (LineOrNoMemory (λ fault. IsOutcome t script (Err fault)))
 
 -- the outcome that a result of the program stands for
 abbrev pub outcome_of : {A : Type 0} → Result (Vec ℕ A) CalcFault → Outcome

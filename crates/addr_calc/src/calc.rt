@@ -2,7 +2,7 @@
 ghost use Rattle.std.specs.Prelude.{◌≡◌, ◌<◌, ◌≤◌, Ok, Err, IfOk, IfErr, length};
 ghost use Rattle.std.specs.declared.result.Result.{Result};
 ghost use Rattle.rule_model.specs.Tiling.{tiling_of};
-ghost use Rattle.addr_calc.specs.Script.{Outcome, IsOutcome, LineOrNoMemory, IsOrNoMemory, outcome_of, longest_script};
+ghost use Rattle.addr_calc.specs.Script.{Outcome, IsOutcome, LineOrNoMemory, AnswersScript, IsOrNoMemory, outcome_of, longest_script};
 
 use crate::calc_fault::CalcFault;
 use crate::calculation::Calculation;
@@ -57,9 +57,7 @@ fn calculated<L: Ledger>(
     requires name { blank.name ≡ L.name }
     requires parts { blank.parts ≡ L.parts }
     requires some { 0 < blank.parts }
-    ensures ran { IfOk result (λ text. IsOutcome (tiling_of machine.now) script.now (Ok text.items)) }
-    ensures fault { IfErr result (LineOrNoMemory (λ fault. IsOutcome (tiling_of machine.now) script.now
-        (Err fault))) }
+    ensures { AnswersScript (tiling_of machine.now) script.now result }
 {
     let mut steps = Steps::<L>::new(blank);
     let mut calculation = Calculation::new(alloc)?;

@@ -4,7 +4,7 @@ ghost use Rattle.cyclo_points.specs.Text.{blank};
 ghost use Rattle.rule_model.specs.Tiling.{Tiling, tiling_of};
 ghost use Rattle.tile_shape.specs.Views.{address_of};
 ghost use Rattle.addr_calc.specs.Bindings.{none_bound, address_of_name, IsBound, IsUnbound};
-ghost use Rattle.addr_calc.specs.Calculation.{AllFit, WasDone, WasRun};
+ghost use Rattle.addr_calc.specs.Calculation.{AllFit, CanRunLine, HasPrinted, WasDone, WasRun};
 ghost use Rattle.addr_calc.specs.Compiled.{AreOf};
 ghost use Rattle.addr_calc.specs.Printed.{letter, across_line, level_text};
 ghost use Rattle.addr_calc.specs.Refuses.{LineRefuses, HasFault};
@@ -69,8 +69,7 @@ impl Calculation {
         steps: &mut Steps<L>,
     ) -> Result<(), CalcFault>
         requires few { self.old.number + 1 < 2 ^ 32 }
-        requires all_fit { AllFit (tiling_of machine.now) self.old.names }
-        requires compiled { AreOf (tiling_of machine.now) pairs.old }
+        requires ready { CanRunLine (tiling_of machine.now) self.old.names pairs.old }
         ensures compiled { AreOf (tiling_of machine.now) pairs.new }
         ensures ran { OnOk result (WasRun (tiling_of machine.now) line.now self.old self.new) }
         ensures fault { IfErr result (LineOrNoMemory
@@ -218,8 +217,7 @@ impl Calculation {
         one: Name,
         other: Name,
     ) -> Result<(), CalcFault>
-        requires all_fit { AllFit (tiling_of machine.now) self.old.names }
-        requires compiled { AreOf (tiling_of machine.now) pairs.old }
+        requires ready { CanRunLine (tiling_of machine.now) self.old.names pairs.old }
         ensures compiled { AreOf (tiling_of machine.now) pairs.new }
         ensures done { OnOk result (WasDone (tiling_of machine.now) (Pair one.number other.number) self.old
             self.new) }
@@ -240,10 +238,7 @@ impl Calculation {
 
     /// Prints a tile across, and the edge there that leads back.
     fn print_across(&mut self, name: Name, across: &Address, back: u8) -> Result<(), AllocError>
-        ensures printed { OnOk result (self.new.text.items ≡ self.old.text.items
-            ++ across_line name.number (address_of across.now) back) }
-        ensures names { self.new.names ≡ self.old.names }
-        ensures number { self.new.number ≡ self.old.number }
+        ensures { HasPrinted (across_line name.number (address_of across.now) back) self.old self.new result }
     {
         self.line.clear();
         self.line.put(b'\n');
@@ -256,10 +251,7 @@ impl Calculation {
     /// Prints the line, after a name.
     fn print(&mut self, name: Name) -> Result<(), AllocError>
         requires room { length self.old.line + 2 < 1000 }
-        ensures printed { OnOk result (self.new.text.items ≡ self.old.text.items ++ letter name.number
-            ∷ blank ∷ self.old.line) }
-        ensures names { self.new.names ≡ self.old.names }
-        ensures number { self.new.number ≡ self.old.number }
+        ensures { HasPrinted (letter name.number ∷ blank ∷ self.old.line) self.old self.new result }
     {
         self.line.put(b' ');
         self.line.put(name.letter());

@@ -1,8 +1,8 @@
 //! The relation of two tiles.
-ghost use Rattle.std.specs.Prelude.{◌≡◌, IfOk};
-ghost use Rattle.theory_addresses.specs.Address.{Fits};
-ghost use Rattle.rule_model.specs.Tiling.{Tiling, tiling_of, contacts, children};
+ghost use Rattle.std.specs.Prelude.{◌≡◌, None, IfOk};
+ghost use Rattle.rule_model.specs.Tiling.{Tiling, tiling_of, contacts};
 ghost use Rattle.tile_shape.specs.Views.{address_of};
+ghost use Rattle.addr_calc.specs.Calculation.{BothFit};
 ghost use Rattle.addr_calc.specs.Compiled.{AreOf};
 ghost use Rattle.addr_calc.specs.Relation.{IsRelation};
 ghost use Rattle.addr_calc.specs.Views.{relation_of};
@@ -36,7 +36,7 @@ impl Pairs {
     /// Returns the machine, and compiles it if that has not been done.
     fn take(&mut self, machine: &Machine) -> Result<Box<PairMachine>, NoMemory>
         requires compiled { AreOf (tiling_of machine.now) self.old }
-        ensures compiled { AreOf (tiling_of machine.now) self.new }
+        ensures none_left { self.new.compiled ≡ None }
         ensures tables { IfOk result (λ pairs. pairs.value ≡ contacts (tiling_of machine.now)) }
     {
         match self.compiled.take() {
@@ -57,8 +57,7 @@ impl Pairs {
         other: &Address,
     ) -> Result<Verdict, NoMemory>
         requires compiled { AreOf (tiling_of machine.now) self.old }
-        requires one_fits { Fits (children (tiling_of machine.now)) (address_of one.now) }
-        requires other_fits { Fits (children (tiling_of machine.now)) (address_of other.now) }
+        requires fit { BothFit (tiling_of machine.now) (address_of one.now) (address_of other.now) }
         ensures compiled { AreOf (tiling_of machine.now) self.new }
         ensures relation { IfOk result (λ verdict. IsRelation (tiling_of machine.now) (address_of one.now)
             (address_of other.now) (relation_of verdict)) }
@@ -73,8 +72,7 @@ impl Pairs {
 /// Returns the relation of two tiles in the plane.
 fn decide(machine: &Machine, pairs: &PairMachine, one: &Address, other: &Address) -> Verdict
     requires tables { pairs.now ≡ contacts (tiling_of machine.now) }
-    requires one_fits { Fits (children (tiling_of machine.now)) (address_of one.now) }
-    requires other_fits { Fits (children (tiling_of machine.now)) (address_of other.now) }
+    requires fit { BothFit (tiling_of machine.now) (address_of one.now) (address_of other.now) }
     ensures { IsRelation (tiling_of machine.now) (address_of one.now) (address_of other.now)
         (relation_of result) }
 {

@@ -10,15 +10,17 @@ use Rattle.rule_model.specs.Tiling.{Tiling, tiling_of}
 use Rattle.tile_place.specs.Keys.{order_numbers}
 use Rattle.tile_place.specs.declared.placed_tile.PlacedTile.{PlacedTile}
 use Rattle.theory_walks.specs.Frames.{FrameValue, IsFrameOf}
-use Rattle.window_cover.specs.InOrder.{numbers_placed}
+use Rattle.window_cover.specs.InOrder.{AreInOrder, numbers_placed}
 use Rattle.theory_windows.proofs.Members.{same_whole}
 use Rattle.half_glue.specs.declared.glue_side.GlueSide.{GlueSide}
 use Rattle.half_glue.specs.declared.glue_side.OtherSide.{OtherSide}
 use Rattle.half_glue.specs.declared.pairs.Pair.{Pair}
+use Rattle.half_glue.specs.declared.window_search.WindowSearch.{WindowSearch}
 use Rattle.half_glue.specs.Checked.{HasGlueLaws}
 use Rattle.half_glue.specs.Found.{no_tile, given_tile, StandsAmong}
-use Rattle.half_glue.specs.Given.{AreGiven}
-use Rattle.half_glue.specs.Inner.{IsTilePlaced, IsInnerPair}
+use Rattle.half_glue.specs.Given.{AreGiven, AreToGlue}
+use Rattle.half_glue.specs.Inner.{IsInnerPair}
+use Rattle.half_glue.specs.Searches.{IsTilePlaced, IsWindowSearch}
 use Rattle.half_glue.specs.Sides.{IsOtherSide, IsSideOf, AreSides}
 use Rattle.half_glue.proofs.AmongTiles.{own-side, half-found}
 use Rattle.half_glue.proofs.Halves.{its-kind-there}
@@ -28,7 +30,21 @@ pub are-placed : (m : Rule) → HasGlueLaws m → (f : FrameValue) → IsFrameOf
     → (tiles : List PlacedTile) → AreGiven (tiling_of m) f tiles → All (IsTilePlaced (tiling_of m)) tiles
 are-placed m L f is tiles given k d l =
     let own = given k d l in
-    record { kind_exists = its-kind-there m L f is (get_or tiles k d) own; turn_below = own.turn_below; within = own.within }
+    record {
+      kind_exists = its-kind-there m L f is (get_or tiles k d) own;
+      motion = record { turn_below = own.turn_below; within = own.within; in_order = own.in_order };
+    }
+
+-- tiles that are to be glued, and in order, may be searched
+pub window-search : (s : WindowSearch) → HasGlueLaws s.machine.now → (f : FrameValue)
+    → AreToGlue (tiling_of s.machine.now) f s.tiles.now → AreInOrder s.tiles.now
+    → AreSides (tiling_of s.machine.now) s.sides.now → IsWindowSearch s
+window-search s L f given ordered sides = record {
+  few = given.few;
+  placed = are-placed s.machine.now L f given.frame s.tiles.now given.given;
+  in_order = ordered;
+  sides = sides;
+}
 
 -- ---- the place of another half
 -- is that of a tile, of the kind that the other half has

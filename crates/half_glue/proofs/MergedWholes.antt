@@ -1,18 +1,25 @@
 -- The whole tiles of pairs that are merged.
-use Rattle.std.proofs.Common.{◌≡◌, ◌⊎◌, inl, inr, zero, suc, ◌+◌, List, [], ◌∷◌, ◌++◌, All, length, refl, sym, ap, ◌∙◌, subst, arith}
+use Rattle.std.proofs.Common.{◌≡◌, ◌⊎◌, inl, inr, zero, suc, ◌+◌, ◌≤◌, List, [], ◌∷◌, ◌++◌, All, length, refl, sym, ap, ◌∙◌, subst, arith}
 use Rattle.std.specs.List.{Contains}
 use Rattle.std.proofs.lemmas.List.{get_or-append-add, get_or_append_left, length-append, map-append}
 use Rattle.std.proofs.lemmas.List.Elements.{All-append, All-map, All-weaker, All-contains, Contains-append_left, Contains-append_right}
+use Rattle.rule_model.specs.declared.rule.Rule.{Rule}
+use Rattle.rule_model.specs.Tiling.{tiling_of}
 use Rattle.tile_place.specs.declared.placed_tile.PlacedTile.{PlacedTile}
-use Rattle.theory_walks.specs.Frames.{FrameValue}
+use Rattle.theory_walks.specs.Frames.{FrameValue, IsFrameOf}
+use Rattle.theory_windows.specs.Limits.{most_tiles}
 use Rattle.half_glue.specs.declared.pairs.Pair.{Pair}
 use Rattle.half_glue.specs.declared.whole_tile.WholeTile.{WholeTile}
 use Rattle.half_glue.specs.Arranged.{AreWholesArranged}
+use Rattle.half_glue.specs.Checked.{HasGlueLaws}
 use Rattle.half_glue.specs.InOrder.{first_numbers, AreWholesInOrder}
 use Rattle.half_glue.specs.Keys.{no_pair}
 use Rattle.half_glue.specs.Lifted.{whole_of, wholes_of}
 use Rattle.half_glue.specs.Merged.{pair_numbers, pair_of_number, ArePairsInOrder, AreMerged}
+use Rattle.half_glue.specs.Numbered.{AreKeyed}
+use Rattle.half_glue.specs.Pairs.{ArePresent, ArePairsOf}
 use Rattle.half_glue.proofs.Merging.{total}
+use Rattle.half_glue.proofs.Wholes.{all-keyed}
 use Rattle.half_glue.proofs.Elements.{contains-map, contained}
 
 -- what is so of all of two lists is so of each list
@@ -21,6 +28,20 @@ all-left P xs ys all k d l = subst P (get_or_append_left xs ys d k l) (all k d (
 
 pub all-right : {A : Type 0} (P : A → Type 0) (xs ys : List A) → All P (xs ++ ys) → All P ys
 all-right P xs ys all k d l = subst P (get_or-append-add xs ys k d) (all (length xs + k) d (omega (arith, l, length-append xs ys)))
+
+-- the second of two lists of pairs has keys
+pub outer-keyed : (m : Rule) → HasGlueLaws m → (f : FrameValue) → IsFrameOf (tiling_of m) f
+    → (tiles crossed : List PlacedTile) (inner outer : List Pair) → length tiles ≤ most_tiles
+    → ArePairsOf (tiling_of m) f tiles crossed (inner ++ outer) → AreKeyed (tiles ++ crossed) outer
+outer-keyed m L f is tiles crossed inner outer few paired = record {
+  few = let l = paired.few in omega (arith, l, few, length-append inner outer);
+  numbered = all-right (ArePresent (length (tiles ++ crossed))) inner outer paired.present;
+  fit = all-keyed m L f is tiles crossed (inner ++ outer) paired;
+}
+
+-- and so they have where they are read in slices
+pub keyed-as : (xs ys : List PlacedTile) (ps qs : List Pair) → xs ≡ ys → qs ≡ ps → AreKeyed ys ps → AreKeyed xs qs
+keyed-as xs ys ps qs same alike h = subst (λ (zs : List PlacedTile). AreKeyed zs qs) (sym same) (subst (AreKeyed ys) (sym alike) h)
 
 module _ (f : FrameValue) (all : List PlacedTile) where
   -- pairs are in order where their whole tiles are

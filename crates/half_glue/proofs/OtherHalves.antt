@@ -1,5 +1,5 @@
 -- What is known of a tile given by the glue edge of its kind.
-use Rattle.std.proofs.Common.{◌≡◌, ℕ, ◌<◌, List, All, length, get_or, Option, None, Some, sym, ap, ◌∙◌, subst}
+use Rattle.std.proofs.Common.{◌≡◌, ℕ, ◌<◌, List, All, length, get_or, Option, None, Some, Ok, refl, sym, ap, ◌∙◌, subst, arith}
 use Rattle.std.proofs.lemmas.List.{get_or_default}
 use Rattle.rule_model.specs.declared.rule.Rule.{Rule}
 use Rattle.rule_model.specs.Glue.{IsOnlyGlueEdge}
@@ -9,8 +9,10 @@ use Rattle.tile_place.specs.declared.placed_tile.PlacedTile.{PlacedTile}
 use Rattle.theory_walks.specs.Frames.{FrameValue, IsFrameOf}
 use Rattle.theory_walks.proofs.Walks.{GrowsTo-self}
 use Rattle.half_glue.specs.declared.glue_side.GlueSide.{GlueSide}
+use Rattle.half_glue.specs.declared.half.Found.{Found}
 use Rattle.half_glue.specs.declared.half.Found.TheVariants.{Alone, Given}
 use Rattle.half_glue.specs.Checked.{HasGlueLaws}
+use Rattle.half_glue.specs.Ends.{FindsHalf}
 use Rattle.half_glue.specs.Found.{no_tile, given_tile, KeyStandsBeside, AreGlued, IsJoined}
 use Rattle.half_glue.specs.Given.{IsGiven}
 use Rattle.half_glue.specs.Keys.{AreKeysOf}
@@ -19,6 +21,19 @@ use Rattle.half_glue.specs.WholeTiles.{HasNoGlueEdge}
 use Rattle.half_glue.proofs.Halves.{its-kind-there}
 use Rattle.half_glue.proofs.LookUp.{given-glued}
 use Rattle.half_glue.proofs.Settling.{settled-inside, settled-joined}
+
+-- what is found while the frame stays as it is
+pub found-at-once : (t : Tiling) (f : FrameValue) → IsFrameOf t f → (tiles : List PlacedTile) (x : PlacedTile)
+    (found : Found) → IsJoined t f f tiles x found → FindsHalf t f f tiles x (Ok found)
+found-at-once t f is tiles x found h = record {
+  ends = record {
+    frame = GrowsTo-self t f is;
+    least = λ n l k. absurd (omega (arith, l, k));
+    answered = λ can. refl;
+    cause = tt;
+  };
+  joined = h;
+}
 
 module _ (m : Rule) (L : HasGlueLaws m) (f : FrameValue) (is : IsFrameOf (tiling_of m) f)
     (tiles : List PlacedTile) (given : All (IsGiven (tiling_of m) f) tiles) (sides : List (Option GlueSide))

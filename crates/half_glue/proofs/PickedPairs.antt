@@ -10,7 +10,7 @@ use Rattle.half_glue.specs.declared.whole_tile.WholeTile.{WholeTile}
 use Rattle.half_glue.specs.Keys.{no_key, no_pair, pair_at, whole_at}
 use Rattle.half_glue.specs.Lifted.{whole_of, wholes_of}
 use Rattle.std.proofs.lemmas.List.{get_or-map}
-use Rattle.half_glue.proofs.Taking.{map-joined}
+use Rattle.half_glue.proofs.ArePaired.{map-joined}
 
 -- what is chosen, taken further
 chosen-map : {A B : Type 0} (g : A → B) (p : ℕ → Bool) (h : ℕ → A) (k : ℕ → B) (n : ℕ)

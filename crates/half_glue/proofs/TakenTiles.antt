@@ -21,7 +21,7 @@ use Rattle.half_glue.specs.Pairs.{ArePresent, second_of, loose_of, AreLoose, IsE
 use Rattle.half_glue.specs.WholeTiles.{HasNoGlueEdge}
 use Rattle.half_glue.proofs.AmongTiles.{front-there}
 use Rattle.half_glue.proofs.Settling.{settled-inside, settled-joined}
-use Rattle.half_glue.proofs.Taking.{ArePaired}
+use Rattle.half_glue.proofs.ArePaired.{ArePaired}
 use Rattle.half_glue.proofs.GluedBack.{glued-back}
 use Rattle.half_glue.proofs.Elements.{contains-map}
 

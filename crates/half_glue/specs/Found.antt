@@ -85,10 +85,6 @@ pub record IsJoined (t : Tiling) (f g : FrameValue) (tiles : List PlacedTile) (x
   pub inside : IsGluedInside t f (length g.digits) x
   pub can_be_joined : CanBeJoined t (full t f) x
 
--- this holds for the tile with this number
-abbrev pub IsHalfOf : Tiling → FrameValue → FrameValue → List PlacedTile → ℕ → Found → Type 0
-IsHalfOf t f g tiles n = IsJoined t f g tiles (given_tile tiles n)
-
 -- a number that is found is that of a tile
 abbrev pub IsNumberOfGiven : List PlacedTile → Found → Type 0
 IsNumberOfGiven tiles Alone = Unit {0}

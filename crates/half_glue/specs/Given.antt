@@ -1,10 +1,11 @@
 -- Tiles that are given to be glued.
-use Rattle.std.specs.Prelude.{◌≡◌, ◌<◌, ◌≤◌, ◌^◌, List, All, length}
+use Rattle.std.specs.Prelude.{◌≡◌, ℕ, ◌<◌, ◌≤◌, ◌^◌, List, All, length}
 use Rattle.theory_substitution.specs.Supertile.{Placed}
 use Rattle.cyclo_points.specs.Order.{NumberOf, points_of}
 use Rattle.cyclo_points.specs.Point.{IsOf, IsWithin}
 use Rattle.cyclo_points.specs.Motion.{motion_in}
 use Rattle.theory_frames.specs.Frame.{IsTileOf, StandsInFrame, lifted_in}
+use Rattle.rule_model.specs.Glue.{IsOnlyGlueEdge}
 use Rattle.rule_model.specs.Tiling.{Tiling, children}
 use Rattle.tile_place.specs.declared.placed_tile.PlacedTile.{PlacedTile}
 use Rattle.tile_shape.specs.Views.{address_of}
@@ -28,6 +29,12 @@ pub record IsGiven (t : Tiling) (f : FrameValue) (x : PlacedTile) : Type 0 where
   pub in_order : IsOf t.order x.motion.shift
   pub within : IsWithin (2 ^ 24) x.motion.shift
 
+-- the frame is one of the tiling, the tile is of it, and e is the only glue edge of the tile's kind
+pub record IsToJoin (t : Tiling) (f : FrameValue) (x : PlacedTile) (e : ℕ) : Type 0 where
+  pub frame : IsFrameOf t f
+  pub given : IsGiven t f x
+  pub glue_edge : IsOnlyGlueEdge t.rule x.kind e
+
 -- this holds for each of these tiles
 abbrev pub AreGiven : Tiling → FrameValue → List PlacedTile → Type 0
 AreGiven t f tiles = All (IsGiven t f) tiles
@@ -37,3 +44,8 @@ pub record AreToGlue (t : Tiling) (f : FrameValue) (tiles : List PlacedTile) : T
   pub frame : IsFrameOf t f
   pub few : length tiles ≤ most_tiles
   pub given : AreGiven t f tiles
+
+-- number n is that of one of these tiles to glue
+pub record IsToFind (t : Tiling) (f : FrameValue) (tiles : List PlacedTile) (n : ℕ) : Type 0 where
+  pub to_glue : AreToGlue t f tiles
+  pub below : n < length tiles

@@ -1,31 +1,12 @@
 -- Whole tiles of which every tile is given.
-use Rattle.std.specs.Prelude.{◌≡◌, ◌⊎◌, ℕ, ◌<◌, ◌≤◌, ◌^◌, Bool, false, List, All, length, get_or, Option, Some, IsTrue}
+use Rattle.std.specs.Prelude.{◌≡◌, ◌⊎◌, ℕ, ◌<◌, ◌≤◌, Bool, false, List, All, length, get_or, Some, IsTrue}
 use Rattle.std.specs.List.{Contains}
-use Rattle.cyclo_points.specs.Order.{points_of}
-use Rattle.cyclo_points.specs.Point.{IsWithin}
 use Rattle.rule_model.specs.Tiling.{Tiling}
 use Rattle.tile_place.specs.declared.placed_tile.PlacedTile.{PlacedTile}
 use Rattle.theory_walks.specs.Frames.{FrameValue}
-use Rattle.theory_windows.specs.Limits.{most_tiles}
-use Rattle.window_cover.specs.InOrder.{AreInOrder}
-use Rattle.half_glue.specs.declared.glue_side.GlueSide.{GlueSide}
 use Rattle.half_glue.specs.declared.pairs.Pair.{Pair}
 use Rattle.half_glue.specs.Keys.{no_pair}
 use Rattle.half_glue.specs.Pairs.{ArePresent, IsLoose, loose_of}
-use Rattle.half_glue.specs.Sides.{AreSides}
-
--- the tile's kind exists, and its motion is within the limits
-pub record IsTilePlaced (t : Tiling) (x : PlacedTile) : Type 0 where
-  pub kind_exists : x.kind < length t.rule.kinds
-  pub turn_below : x.motion.turn < (points_of t.order).order
-  pub within : IsWithin (2 ^ 24) x.motion.shift
-
--- the tiles are those of a window, in order and in their places, and the glue edges are those of the rule
-pub record AreSought (t : Tiling) (own : List (Option GlueSide)) (tiles : List PlacedTile) : Type 0 where
-  pub few : length tiles ≤ most_tiles
-  pub placed : All (IsTilePlaced t) tiles
-  pub in_order : AreInOrder tiles
-  pub sides : AreSides t own
 
 -- both numbers of the pair are those of given tiles, and these tiles are a whole one
 pub record IsInnerPair (t : Tiling) (f : FrameValue) (tiles : List PlacedTile) (p : Pair) : Type 0 where

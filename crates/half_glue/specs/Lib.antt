@@ -10,6 +10,8 @@ pub mod Sides
 pub mod Found
 pub mod Pairs
 pub mod Inner
+pub mod NumberedTiles
+pub mod Searches
 pub mod Merged
 pub mod Lifted
 pub mod Glued

@@ -1,14 +1,16 @@
 -- Two lists of pairs, merged into one.
-use Rattle.std.specs.Prelude.{◌≡◌, ◌⊎◌, ℕ, ◌<◌, ◌≤◌, ◌++◌, ℤ, List, All, length, get_or, Result, Ok, Err}
+use Rattle.std.specs.Prelude.{◌≡◌, ◌⊎◌, ℕ, ◌<◌, ◌≤◌, ℤ, List, All, length, get_or, Result, Ok, Err}
 use Rattle.std.specs.List.{Contains}
 use Rattle.std.specs.Ordering.{int_cmp}
 use Rattle.std.specs.Cmp.Lexicographic.{slice_cmp}
 use Rattle.std.specs.declared.cmp.Ordering.TheVariants.{Less, Greater}
 use Rattle.tile_place.specs.Keys.{order_numbers}
 use Rattle.tile_place.specs.declared.placed_tile.PlacedTile.{PlacedTile}
+use Rattle.half_glue.specs.declared.merge.Merge.{Merge}
 use Rattle.half_glue.specs.declared.pairs.Pair.{Pair}
 use Rattle.window_cover.specs.InOrder.{AreInOrder}
 use Rattle.half_glue.specs.Found.{given_tile}
+use Rattle.half_glue.specs.NumberedTiles.{HasTile, tiles_in}
 use Rattle.half_glue.specs.Inner.{AreRising}
 use Rattle.half_glue.specs.Keys.{no_pair}
 
@@ -40,11 +42,11 @@ pub record AreMerged (tiles : List PlacedTile) (inner outer pairs : List Pair) :
 
 -- The first list is one of tiles of a window, which are in order, and it is rising. The second has numbers of
 -- tiles, and is in order.
-pub record CanBeMerged (tiles crossed : List PlacedTile) (inner outer : List Pair) : Type 0 where
-  pub in_order : AreInOrder tiles
-  pub rising : AreRising (length tiles) inner
-  pub numbered : All (λ (p : Pair). p.first < length (tiles ++ crossed)) outer
-  pub outer_in_order : ArePairsInOrder (tiles ++ crossed) outer
+pub record CanBeMerged (m : Merge) : Type 0 where
+  pub in_order : AreInOrder m.halves.tiles.now
+  pub rising : AreRising (length m.halves.tiles.now) m.inner.now
+  pub numbered : All (λ (p : Pair). HasTile m.halves p.first) m.outer.now
+  pub outer_in_order : ArePairsInOrder (tiles_in m.halves) m.outer.now
 
 -- This holds for the first `done` pairs of the first list and the first `next` pairs of the second. Each pair
 -- comes before all that are left of both.

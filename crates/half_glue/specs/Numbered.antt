@@ -5,6 +5,7 @@ use Rattle.theory_windows.specs.Limits.{most_tiles}
 use Rattle.tile_place.specs.declared.order_key.OrderKey.{OrderKey}
 use Rattle.tile_place.specs.declared.placed_tile.PlacedTile.{PlacedTile}
 use Rattle.half_glue.specs.declared.half.Found.{Found}
+use Rattle.half_glue.specs.declared.pairs.Pair.{Pair}
 use Rattle.half_glue.specs.declared.pairs.Pairs.{Pairs}
 use Rattle.half_glue.specs.Found.{IsNumberOfGiven}
 use Rattle.half_glue.specs.Keys.{HasTileKey, first_keys}
@@ -17,19 +18,18 @@ pub record HaveKeys (tiles : List PlacedTile) : Type 0 where
   pub fit : All HasTileKey tiles
 
 -- the pairs are not too many, their numbers are those of tiles, and each tile has a key
-pub record AreKeyed (tiles : List PlacedTile) (made : Pairs) : Type 0 where
-  pub few : length made.pairs.items < 2 ^ 32
-  pub numbered : All (ArePresent (length (tiles ++ made.crossed.items))) made.pairs.items
-  pub fit : All HasTileKey (tiles ++ made.crossed.items)
+pub record AreKeyed (tiles : List PlacedTile) (pairs : List Pair) : Type 0 where
+  pub few : length pairs < 2 ^ 32
+  pub numbered : All (ArePresent (length tiles)) pairs
+  pub fit : All HasTileKey tiles
 
 -- these are the keys of the pairs, by their first tiles
-abbrev pub AreFirstKeys : List PlacedTile → Pairs → List OrderKey → Type 0
-AreFirstKeys tiles made keys = (f : FrameValue)
-    → keys ≡ first_keys (wholes_of f (tiles ++ made.crossed.items) made.pairs.items)
+abbrev pub AreFirstKeys : List PlacedTile → List Pair → List OrderKey → Type 0
+AreFirstKeys tiles pairs keys = (f : FrameValue) → keys ≡ first_keys (wholes_of f tiles pairs)
 
 -- the number of each key is that of a pair
-abbrev pub NamePairs : Pairs → List OrderKey → Type 0
-NamePairs made keys = All (λ (k : OrderKey). k.number < length made.pairs.items) keys
+abbrev pub NamePairs : List Pair → List OrderKey → Type 0
+NamePairs pairs keys = All (λ (k : OrderKey). k.number < length pairs) keys
 
 -- the pair of tile number n may be added: no more tiles were crossed to than were looked at
 pub record CanBeAdded (tiles : List PlacedTile) (made : Pairs) (n : ℕ) (found : Found) : Type 0 where

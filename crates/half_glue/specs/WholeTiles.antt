@@ -1,5 +1,6 @@
 -- Whole tiles: tiles without a glue edge, and pairs of halves.
-use Rattle.std.specs.Prelude.{◌≡◌, ◌⊎◌, ℕ, ◌<◌, List, All, Option, None, Some}
+use Rattle.std.specs.Prelude.{◌≡◌, ◌⊎◌, ℕ, ◌<◌, List, All, Option, None, Some, slice_get, IfSome, IsTrue}
+use Rattle.std.specs.Option.{is_some}
 use Rattle.std.specs.List.{Contains}
 use Rattle.theory_substitution.specs.Supertile.{Placed}
 use Rattle.cyclo_points.specs.Order.{NumberOf}
@@ -51,3 +52,7 @@ pub record AreWholeTilesOf (t : Tiling) (f : FrameValue) (tiles : List PlacedTil
   pub whole : All (IsWholeTile t f) wholes
   pub of_given : All (λ w. (x : PlacedTile) × Contains tiles x × IsPartOf t f w x) wholes
   pub each_joined : All (λ x. (w : WholeTile) × Contains wholes w × IsPartOf t f w x) tiles
+
+-- the whole tile at this place has a second half
+abbrev pub HasSecond : List WholeTile → ℕ → Type 0
+HasSecond wholes n = IfSome (slice_get wholes n) (λ w. IsTrue (is_some w.second))

@@ -1,15 +1,12 @@
 //! Puts whole tiles in order, each exactly once.
 ghost use Rattle.std.specs.Prelude.{◌≡◌, ◌<◌, ◌++◌, All, length, IfOk};
 ghost use Rattle.half_glue.specs.Found.{given_tile};
-ghost use Rattle.half_glue.specs.InOrder.{AreWholesInOrder};
-ghost use Rattle.theory_addresses.specs.Search.{chosen_below};
-ghost use Rattle.half_glue.specs.Keys.{is_new_key, whole_at};
-ghost use Rattle.half_glue.specs.Numbered.{AreFirstKeys, AreKeyed, NamePairs};
-ghost use Rattle.half_glue.specs.Arranged.{AreWholesArranged};
+ghost use Rattle.half_glue.specs.Numbered.{AreFirstKeys, AreKeyed};
+ghost use Rattle.half_glue.specs.Arranged.{AreWholesOrdered};
 ghost use Rattle.half_glue.specs.Lifted.{CanBeWholes, IsNoDeeper, lifted_to, whole_of, wholes_of};
 ghost use Rattle.half_glue.specs.Pairs.{ArePresent};
-ghost use Rattle.half_glue.specs.declared.whole_tile.WholeTile as whole;
 
+use crate::covered_order::ordered;
 use crate::pairs::{Pair, Pairs};
 use crate::whole_tile::WholeTile;
 use lazy_walk::frame::Frame;
@@ -24,23 +21,27 @@ pub(crate) fn arranged(
     alloc: Global,
     frame: &Frame,
     tiles: &[PlacedTile],
-    made: &Pairs,
+    made: Pairs,
 ) -> Result<Vec<WholeTile>, NoMemory>
-    requires keyed { AreKeyed tiles.now made.now }
-    requires no_deeper { All (IsNoDeeper frame.now) (tiles.now ++ made.now.crossed.items) }
-    ensures in_order { IfOk result (λ wholes. AreWholesInOrder wholes.items) }
-    ensures same { IfOk result (λ wholes. AreWholesArranged
-        (wholes_of frame.now (tiles.now ++ made.now.crossed.items) made.now.pairs.items) wholes.items) }
+    requires keyed { AreKeyed (tiles.now ++ made.crossed.items) made.pairs.items }
+    requires no_deeper { All (IsNoDeeper frame.now) (tiles.now ++ made.crossed.items) }
+    ensures { IfOk result (λ wholes. AreWholesOrdered
+        (wholes_of frame.now (tiles.now ++ made.crossed.items) made.pairs.items) wholes.items) }
 {
-    let mut keys = keys(alloc, tiles, made)?;
-    keys.sort_unstable();
-    picked(alloc, frame, tiles, made, keys.as_slice())
+    let keys = keys(alloc, tiles, &made)?;
+    let pairs = ordered(alloc, made.pairs.as_slice(), keys)?;
+    let made = Pairs {
+        pairs,
+        crossed: made.crossed,
+    };
+    wholes(alloc, frame, tiles, &made)
 }
 
 /// Returns the keys of the first halves of pairs, in the order of the pairs.
 fn keys(alloc: Global, tiles: &[PlacedTile], made: &Pairs) -> Result<Vec<OrderKey>, NoMemory>
-    requires { AreKeyed tiles.now made.now }
-    ensures { IfOk result (λ keys. AreFirstKeys tiles.now made.now keys.items) }
+    requires { AreKeyed (tiles.now ++ made.now.crossed.items) made.now.pairs.items }
+    ensures { IfOk result (λ keys. AreFirstKeys (tiles.now ++ made.now.crossed.items)
+        made.now.pairs.items keys.items) }
 {
     let count = made.pairs.len();
     let mut keys = Vec::with_capacity(alloc, count)?;
@@ -51,44 +52,24 @@ fn keys(alloc: Global, tiles: &[PlacedTile], made: &Pairs) -> Result<Vec<OrderKe
     Ok(keys)
 }
 
-/// Returns the whole tiles of those keys whose place and kind differ from those of the key before.
-fn picked(
+/// Makes the whole tiles of pairs, in their order.
+fn wholes(
     alloc: Global,
     frame: &Frame,
     tiles: &[PlacedTile],
     made: &Pairs,
-    keys: &[OrderKey],
 ) -> Result<Vec<WholeTile>, NoMemory>
-    requires keyed { NamePairs made.now keys.now }
-    requires wholes { CanBeWholes frame.now (tiles.now ++ made.now.crossed.items) made.now.pairs.items }
-    ensures { IfOk result (λ wholes. (blank : whole.WholeTile) → wholes.items
-        ≡ chosen_below (is_new_key keys.now) (whole_at
-        (wholes_of frame.now (tiles.now ++ made.now.crossed.items) made.now.pairs.items) blank keys.now)
-        (length keys.now)) }
+    requires { CanBeWholes frame.now (tiles.now ++ made.now.crossed.items) made.now.pairs.items }
+    ensures { IfOk result (λ wholes. wholes.items ≡ wholes_of frame.now
+        (tiles.now ++ made.now.crossed.items) made.now.pairs.items) }
 {
-    let count = keys.len();
+    let count = made.pairs.len();
     let mut wholes = Vec::with_capacity(alloc, count)?;
-    for place in 0..count {
-        if is_new(keys, place) {
-            let number = keys[place].number;
-            let pair = made.pairs[number as usize];
-            wholes.push(whole(frame, tiles, made.crossed.as_slice(), pair))?;
-        }
+    for number in 0..count {
+        let pair = made.pairs[number];
+        wholes.push(whole(frame, tiles, made.crossed.as_slice(), pair))?;
     }
     Ok(wholes)
-}
-
-/// Returns true if the key at `place` differs in place or kind from the key before, or has none before it.
-pub(crate) fn is_new(keys: &[OrderKey], place: usize) -> bool
-    requires below { place < length keys.now }
-    ensures { result ≡ is_new_key keys.now place }
-{
-    if place == 0 {
-        return true;
-    }
-    let key = keys[place];
-    let before = keys[place - 1];
-    !key.is_level(&before)
 }
 
 /// Makes the whole tile of a pair, with each tile lifted to the frame's depth.

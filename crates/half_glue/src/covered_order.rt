@@ -1,89 +1,80 @@
-//! Puts pairs of tiles of a window in order, each exactly once.
-ghost use Rattle.std.specs.Prelude.{◌≡◌, ◌<◌, ◌++◌, All, length, IfOk};
+//! Puts pairs of tiles in order, each exactly once.
+ghost use Rattle.std.specs.Prelude.{◌≡◌, ◌<◌, List, length, IfOk};
 ghost use Rattle.theory_addresses.specs.Search.{chosen_below};
-ghost use Rattle.theory_walks.specs.Frames.{FrameValue};
-ghost use Rattle.tile_place.specs.Keys.{key_of};
-ghost use Rattle.half_glue.specs.Arranged.{AreWholesArranged};
-ghost use Rattle.half_glue.specs.Found.{given_tile};
-ghost use Rattle.half_glue.specs.InOrder.{AreWholesInOrder};
-ghost use Rattle.half_glue.specs.Keys.{HasTileKey, is_new_key, pair_at};
-ghost use Rattle.half_glue.specs.Lifted.{wholes_of};
+ghost use Rattle.tile_place.specs.declared.placed_tile.PlacedTile as placed;
+ghost use Rattle.half_glue.specs.Arranged.{AreOrdered};
+ghost use Rattle.half_glue.specs.NumberedTiles.{tiles_in};
+ghost use Rattle.half_glue.specs.Keys.{is_new_key, pair_at};
 ghost use Rattle.half_glue.specs.Numbered.{AreFirstKeys, AreKeyed, NamePairs};
-ghost use Rattle.half_glue.specs.Pairs.{ArePresent};
 
-use crate::arranged::is_new;
-use crate::pairs::{Pair, Pairs};
+use crate::numbered_tiles::NumberedTiles;
+use crate::pairs::Pair;
 use std::alloc::Global;
 use tile_place::order_key::OrderKey;
 use tile_shape::no_memory::NoMemory;
-use window_cover::covered_tiles::CoveredTiles;
-
-/// Returns the pairs in the order of their first halves. Pairs with the same first half become one.
-pub(crate) fn ordered(
-    alloc: Global,
-    tiles: &CoveredTiles,
-    made: &Pairs,
-) -> Result<Vec<Pair>, NoMemory>
-    requires { AreKeyed tiles.now made.now }
-    ensures numbered { IfOk result (λ pairs. All (ArePresent (length (tiles.now ++ made.now.crossed.items)))
-        pairs.items) }
-    ensures in_order { IfOk result (λ pairs. (f : FrameValue)
-        → AreWholesInOrder (wholes_of f (tiles.now ++ made.now.crossed.items) pairs.items)) }
-    ensures same { IfOk result (λ pairs. (f : FrameValue)
-        → AreWholesArranged (wholes_of f (tiles.now ++ made.now.crossed.items) made.now.pairs.items)
-        (wholes_of f (tiles.now ++ made.now.crossed.items) pairs.items)) }
-{
-    let mut keys = keys(alloc, tiles, made)?;
-    keys.sort_unstable();
-    picked(alloc, made, keys.as_slice())
-}
 
 /// Returns the keys of the first halves of pairs, in the order of the pairs.
-fn keys(alloc: Global, tiles: &CoveredTiles, made: &Pairs) -> Result<Vec<OrderKey>, NoMemory>
-    requires { AreKeyed tiles.now made.now }
-    ensures { IfOk result (λ keys. AreFirstKeys tiles.now made.now keys.items) }
+pub(crate) fn pair_keys(
+    alloc: Global,
+    halves: &NumberedTiles,
+    pairs: &[Pair],
+) -> Result<Vec<OrderKey>, NoMemory>
+    requires { AreKeyed (tiles_in halves.now) pairs.now }
+    ensures { IfOk result (λ keys. AreFirstKeys (tiles_in halves.now) pairs.now keys.items) }
 {
-    let count = made.pairs.len();
+    let count = pairs.len();
     let mut keys = Vec::with_capacity(alloc, count)?;
     for number in 0..count {
-        let first = made.pairs[number].first;
-        keys.push(key_of(tiles, made, first, number as u32))?;
+        let pair = &pairs[number];
+        keys.push(halves.key(pair.first, number as u32))?;
     }
     Ok(keys)
 }
 
-/// Returns the key of the tile with this number. The tiles of the window come first in the numbering, then
-/// the tiles crossed to.
-fn key_of(tiles: &CoveredTiles, made: &Pairs, number: u32, own: u32) -> OrderKey
-    requires below { number < length (tiles.now ++ made.now.crossed.items) }
-    requires fit { All HasTileKey (tiles.now ++ made.now.crossed.items) }
-    ensures { result ≡ key_of (given_tile (tiles.now ++ made.now.crossed.items) number).motion
-        (given_tile (tiles.now ++ made.now.crossed.items) number).kind own }
+/// Returns the pairs in the order of their first halves, by the keys of these. Pairs with the same first half
+/// become one.
+pub(crate) fn ordered(
+    alloc: Global,
+    pairs: &[Pair],
+    keys: Vec<OrderKey>,
+) -> Result<Vec<Pair>, NoMemory>
+    requires { NamePairs pairs.now keys.items }
+    ensures { (tiles : List placed.PlacedTile) → AreKeyed tiles pairs.now
+        → AreFirstKeys tiles pairs.now keys.items
+        → IfOk result (λ ordered. AreOrdered tiles pairs.now ordered.items) }
 {
-    let place = number as usize;
-    let count = tiles.len();
-    if place < count {
-        OrderKey::of(&tiles.motion(place), tiles.kind(place), own)
-    } else {
-        let tile = &made.crossed[place - count];
-        OrderKey::of(&tile.motion, tile.kind, own)
-    }
+    let mut keys = keys;
+    keys.sort_unstable();
+    picked(alloc, pairs, keys.as_slice())
 }
 
 /// Returns the pairs of those keys whose place and kind differ from those of the key before.
-fn picked(alloc: Global, made: &Pairs, keys: &[OrderKey]) -> Result<Vec<Pair>, NoMemory>
-    requires keyed { NamePairs made.now keys.now }
+fn picked(alloc: Global, pairs: &[Pair], keys: &[OrderKey]) -> Result<Vec<Pair>, NoMemory>
+    requires keyed { NamePairs pairs.now keys.now }
     ensures { IfOk result (λ picked. picked.items ≡ chosen_below (is_new_key keys.now)
-        (pair_at made.now.pairs.items keys.now) (length keys.now)) }
+        (pair_at pairs.now keys.now) (length keys.now)) }
 {
     let count = keys.len();
     let mut picked = Vec::with_capacity(alloc, count)?;
     for place in 0..count {
         if is_new(keys, place) {
             let number = keys[place].number;
-            let pair = made.pairs[number as usize];
-            picked.push(pair)?;
+            let pair = &pairs[number as usize];
+            picked.push(*pair)?;
         }
     }
     Ok(picked)
+}
+
+/// Returns true if the key at `place` differs in place or kind from the key before, or has none before it.
+fn is_new(keys: &[OrderKey], place: usize) -> bool
+    requires below { place < length keys.now }
+    ensures { result ≡ is_new_key keys.now place }
+{
+    if place == 0 {
+        return true;
+    }
+    let key = keys[place];
+    let before = keys[place - 1];
+    !key.is_level(&before)
 }

@@ -7,17 +7,15 @@ ghost use Rattle.half_glue.specs.Given.{AreToGlue};
 ghost use Rattle.half_glue.specs.Inner.{AreRising};
 ghost use Rattle.half_glue.specs.Pairs.{ArePairsOf};
 
-use crate::covered_half::other_half;
 use crate::glue_fault::GlueFault;
 use crate::glue_laws::glue_laws;
 use crate::glue_side::glue_sides;
 use crate::guesses::Guesses;
 use crate::inner_pairs::inner_pairs;
 use crate::pairs::{Pair, Pairs, put_covered};
-use edge_tables::steps::Steps;
+use crate::window_search::WindowSearch;
 use lazy_walk::frame::Frame;
 use std::alloc::Global;
-use std::sync::ledger::Ledger;
 use tile_place::machine::Machine;
 use window_cover::covered_tiles::CoveredTiles;
 
@@ -33,12 +31,11 @@ pub(crate) struct CoveredPairs {
 /// Finds the whole tiles of the tiles of a window. An edge is crossed only from a tile that is in none of the
 /// whole tiles found without. The frame grows to the least depth at which none of the tiles' glue edges is on
 /// the boundary.
-pub(crate) fn paired<L: Ledger>(
+pub(crate) fn paired(
     alloc: Global,
     machine: &Machine,
     frame: &mut Frame,
     tiles: &CoveredTiles,
-    steps: &mut Steps<L>,
 ) -> Result<CoveredPairs, GlueFault>
     requires to_glue { AreToGlue (tiling_of machine.now) frame.old tiles.now }
     requires in_order { AreInOrder tiles.now }
@@ -53,14 +50,12 @@ pub(crate) fn paired<L: Ledger>(
     let mut guesses = Guesses::new(alloc, tiles)?;
     let count = tiles.len();
     let mut taken = vec![in alloc; false; count]?;
-    let inner = inner_pairs(
-        alloc,
+    let search = WindowSearch {
         machine,
-        sides.as_slice(),
+        sides: sides.as_slice(),
         tiles,
-        &mut guesses,
-        taken.as_mut_slice(),
-    )?;
+    };
+    let inner = inner_pairs(alloc, &search, &mut guesses, taken.as_mut_slice())?;
     let mut outer = Pairs {
         pairs: Vec::new(alloc),
         crossed: Vec::new(alloc),
@@ -69,15 +64,7 @@ pub(crate) fn paired<L: Ledger>(
         if taken[number] {
             continue;
         }
-        let found = other_half(
-            machine,
-            frame,
-            sides.as_slice(),
-            tiles,
-            &mut guesses,
-            number,
-            steps,
-        )?;
+        let found = search.other_half(frame, &mut guesses, number)?;
         put_covered(&mut outer, tiles, number, found)?;
     }
     Ok(CoveredPairs { inner, outer })

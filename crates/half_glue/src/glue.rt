@@ -1,27 +1,18 @@
 //! Whole tiles.
-ghost use Rattle.std.specs.Prelude.{◌≡◌, ◌⊎◌, ◌<◌, ◌≤◌, ℕ, length, IsOk, Err, IfOk, IfErr, OnOk};
+ghost use Rattle.std.specs.Prelude.{IfOk};
 ghost use Rattle.rule_model.specs.Tiling.{tiling_of};
-ghost use Rattle.theory_walks.specs.Frames.{GrowsTo};
-ghost use Rattle.half_glue.specs.declared.glue_fault.GlueFault.TheVariants.{NoMemory};
 ghost use Rattle.half_glue.specs.Ends.{GluesTo};
 ghost use Rattle.half_glue.specs.Given.{AreToGlue};
 ghost use Rattle.half_glue.specs.WholeTiles.{AreWholeTilesOf};
 ghost use Rattle.half_glue.specs.InOrder.{AreWholesInOrder};
-ghost use Rattle.half_glue.specs.Depth.{IsLeastForGlue, IsTooShallow};
-ghost use Rattle.half_glue.specs.Glued.{AreGluedAs};
-ghost use Rattle.half_glue.specs.Limits.{CanBeGlued};
-ghost use Rattle.half_glue.specs.Causes.{HasGlueCause};
 
 use crate::arranged::arranged;
 use crate::glue_fault::GlueFault;
 use crate::glue_laws::glue_laws;
 use crate::paired::paired;
 use crate::whole_tile::WholeTile;
-use edge_tables::steps::Steps;
 use lazy_walk::frame::Frame;
 use std::alloc::Global;
-use std::marker::Brand;
-use std::sync::ledger::{Blank, Ledger};
 use tile_place::machine::Machine;
 use tile_place::placed_tile::PlacedTile;
 
@@ -46,49 +37,17 @@ pub fn glue(
 ) -> Result<Vec<WholeTile>, GlueFault>
     requires to_glue { AreToGlue (tiling_of machine.now) frame.old tiles.now.items }
 
-    ensures frame { GrowsTo (tiling_of machine.now) frame.old frame.new }
+    // The least depth, even on an error none beyond. The call succeeds if and only if all given tiles can be
+    // glued, unless memory runs out. Each error comes only for its cause.
+    ensures ends { GluesTo (tiling_of machine.now) frame.old frame.new tiles.now.items result }
 
-    // Exactly the whole tiles of the given tiles, each exactly once and in its place, at the least depth.
+    // Exactly the whole tiles of the given tiles, each exactly once and in its place.
     ensures whole_tiles { IfOk result (λ wholes. AreWholeTilesOf (tiling_of machine.now) frame.new
         tiles.now.items wholes.items) }
     ensures in_order { IfOk result (λ wholes. AreWholesInOrder wholes.items) }
-    ensures least { OnOk result (IsLeastForGlue (tiling_of machine.now) frame.old tiles.now.items
-        (length frame.new.digits)) }
-
-    // Even on an error: at each depth that the frame grew past, a given tile has its glue edge on the
-    // boundary.
-    ensures not_beyond { (n : ℕ) → length frame.old.digits ≤ n → n < length frame.new.digits
-        → IsTooShallow (tiling_of machine.now) frame.old tiles.now.items n }
-
-    // The call succeeds if and only if all given tiles can be glued, unless memory runs out. Each error comes
-    // only for its cause.
-    ensures within { OnOk result (CanBeGlued (tiling_of machine.now) frame.old tiles.now.items) }
-    ensures answered { CanBeGlued (tiling_of machine.now) frame.old tiles.now.items
-        → (result ≡ Err NoMemory) ⊎ IsOk result }
-    ensures cause { IfErr result (λ fault. HasGlueCause (tiling_of machine.now) frame.old frame.new
-        tiles.now.items fault) }
-{
-    glued::<Brand>(alloc, machine, frame, tiles.as_slice(), Blank::new(1))
-}
-
-/// Like [`glue`], and counts the look-ups on a ledger with this name.
-fn glued<L: Ledger>(
-    alloc: Global,
-    machine: &Machine,
-    frame: &mut Frame,
-    tiles: &[PlacedTile],
-    blank: Blank,
-) -> Result<Vec<WholeTile>, GlueFault>
-    requires name { blank.name ≡ L.name }
-    requires parts { blank.parts ≡ L.parts }
-    requires some { 0 < blank.parts }
-    requires to_glue { AreToGlue (tiling_of machine.now) frame.old tiles.now }
-    ensures ends { GluesTo (tiling_of machine.now) frame.old frame.new tiles.now result }
-    ensures glued { IfOk result (λ wholes. AreGluedAs (tiling_of machine.now) frame.new tiles.now
-        wholes.items) }
 {
     glue_laws(machine);
-    let mut steps = Steps::<L>::new(blank);
-    let made = paired(alloc, machine, frame, tiles, &mut steps)?;
-    Ok(arranged(alloc, frame, tiles, &made)?)
+    let given = tiles.as_slice();
+    let made = paired(alloc, machine, frame, given)?;
+    Ok(arranged(alloc, frame, given, made)?)
 }

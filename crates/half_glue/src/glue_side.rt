@@ -4,6 +4,7 @@ ghost use Rattle.rule_model.specs.Tiling.{tiling_of};
 ghost use Rattle.half_glue.specs.Sides.{HasGlue, IsOtherSide, IsSideOf, AreSides, are_mates};
 
 use crate::glue_laws::glue_laws;
+use crate::kind_edge::KindEdge;
 use cyclo_points::motion::Motion;
 use std::alloc::Global;
 use tile_place::machine::Machine;
@@ -47,27 +48,29 @@ fn glue_side(machine: &Machine, kind: u8) -> Option<GlueSide>
     match machine.checked().glue_edge(kind) {
         Some(edge) => Some(GlueSide {
             edge,
-            other: other_side(machine, kind, edge),
+            other: other_side(machine, KindEdge { kind, edge }),
         }),
         None => None,
     }
 }
 
-/// Returns the other half of a kind, across this edge.
-fn other_side(machine: &Machine, kind: u8, edge: u8) -> Option<OtherSide>
-    requires { HasGlue (tiling_of machine.now) kind edge }
-    ensures { IfSome result (IsOtherSide (tiling_of machine.now) kind edge) }
+/// Returns the other half of a kind, across this glue edge.
+fn other_side(machine: &Machine, own: KindEdge) -> Option<OtherSide>
+    requires { HasGlue (tiling_of machine.now) own.kind own.edge }
+    ensures { IfSome result (IsOtherSide (tiling_of machine.now) own.kind own.edge) }
 {
     glue_laws(machine);
     for other in 0..machine.checked().rule().kind_count() {
         let other = other as u8;
         if let Some(back) = machine.checked().glue_edge(other) {
-            if are_mates(machine, kind, edge, other, back)
-                && machine.meets(kind, edge, other, back)
-            {
+            let its = KindEdge {
+                kind: other,
+                edge: back,
+            };
+            if are_mates(machine, own, its) && machine.meets(own.kind, own.edge, other, back) {
                 return Some(OtherSide {
                     kind: other,
-                    glue: machine.glue_motion(kind, edge, other, back),
+                    glue: machine.glue_motion(own.kind, own.edge, other, back),
                 });
             }
         }
@@ -76,14 +79,14 @@ fn other_side(machine: &Machine, kind: u8, edge: u8) -> Option<OtherSide>
 }
 
 /// Returns true if the types of two edges are mates.
-fn are_mates(machine: &Machine, kind: u8, edge: u8, other: u8, back: u8) -> bool
-    requires own { HasGlue (tiling_of machine.now) kind edge }
-    requires other { HasGlue (tiling_of machine.now) other back }
-    ensures { result ≡ are_mates (tiling_of machine.now).rule kind edge other back }
+fn are_mates(machine: &Machine, a: KindEdge, b: KindEdge) -> bool
+    requires own { HasGlue (tiling_of machine.now) a.kind a.edge }
+    requires other { HasGlue (tiling_of machine.now) b.kind b.edge }
+    ensures { result ≡ are_mates (tiling_of machine.now).rule a.kind a.edge b.kind b.edge }
 {
     glue_laws(machine);
     let rule = machine.checked().rule();
-    let own = rule.edge_type(usize::from(kind), usize::from(edge));
-    let its = rule.edge_type(usize::from(other), usize::from(back));
+    let own = rule.edge_type(usize::from(a.kind), usize::from(a.edge));
+    let its = rule.edge_type(usize::from(b.kind), usize::from(b.edge));
     its == rule.mate(own)
 }

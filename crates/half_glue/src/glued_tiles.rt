@@ -1,9 +1,12 @@
 //! The whole tiles of a window, to be read one at a time.
-ghost use Rattle.std.specs.Prelude.{◌≡◌, ◌<◌, ◌++◌, All, Some, length, slice_get, IfSome, IsTrue};
+ghost use Rattle.std.specs.Prelude.{◌≡◌, ◌<◌, All, Some, length, slice_get, IfSome};
 ghost use Rattle.std.specs.Option.{is_some, option_map};
 ghost use Rattle.half_glue.specs.Found.{given_tile};
+ghost use Rattle.half_glue.specs.NumberedTiles.{HasTile, tiles_in};
 ghost use Rattle.half_glue.specs.Lifted.{IsNoDeeper, lifted_to};
+ghost use Rattle.half_glue.specs.WholeTiles.{HasSecond};
 
+use crate::numbered_tiles::NumberedTiles;
 use crate::pairs::Pair;
 use cyclo_points::motion::Motion;
 use lazy_walk::frame::Frame;
@@ -58,11 +61,8 @@ impl GluedTiles {
         requires below { place < length self.now }
         ensures { IfSome (slice_get self.now place) (λ w. result ≡ w.first.kind) }
     {
-        let (_, kind) = place_of(
-            &self.tiles,
-            self.crossed.as_slice(),
-            self.pairs[place].first,
-        );
+        let halves = halves_of(&self.tiles, &self.crossed);
+        let (_, kind) = halves.place(self.pairs[place].first);
         kind
     }
 
@@ -72,24 +72,21 @@ impl GluedTiles {
         ensures motion { IfSome (slice_get self.now place) (λ w. result.0 ≡ w.first.motion) }
         ensures kind { IfSome (slice_get self.now place) (λ w. result.1 ≡ w.first.kind) }
     {
-        place_of(
-            &self.tiles,
-            self.crossed.as_slice(),
-            self.pairs[place].first,
-        )
+        let halves = halves_of(&self.tiles, &self.crossed);
+        halves.place(self.pairs[place].first)
     }
 
     /// Like [`first_place`](Self::first_place), for the second half, which must exist.
     pub fn second_place(&self, place: usize) -> (Motion, u8)
         requires below { place < length self.now }
-        requires is_pair { IfSome (slice_get self.now place) (λ w. IsTrue (is_some w.second)) }
+        requires is_pair { HasSecond self.now place }
         ensures motion { IfSome (slice_get self.now place)
             (λ w. Some result.0 ≡ option_map (λ x. x.motion) w.second) }
         ensures kind { IfSome (slice_get self.now place)
             (λ w. Some result.1 ≡ option_map (λ x. x.kind) w.second) }
     {
         let number = self.pairs[place].second.unwrap();
-        place_of(&self.tiles, self.crossed.as_slice(), number)
+        halves_of(&self.tiles, &self.crossed).place(number)
     }
 
     /// Replaces a kind, a motion and an address by those of the first half of the whole tile at a place in
@@ -100,96 +97,50 @@ impl GluedTiles {
             (λ w. w.first ≡ record { kind = kind.new; motion = motion.new; addr = addr.new }) }
     {
         let number = self.pairs[place].first;
-        put_part(
-            &self.tiles,
-            self.crossed.as_slice(),
-            &self.frame,
-            number,
-            kind,
-            motion,
-            addr,
-        );
+        let halves = halves_of(&self.tiles, &self.crossed);
+        put_part(&halves, &self.frame, number, kind, motion, addr);
     }
 
     /// Like [`put_first`](Self::put_first), for the second half, which must exist.
     pub fn put_second(&self, place: usize, kind: &mut u8, motion: &mut Motion, addr: &mut Address)
         requires below { place < length self.now }
-        requires is_pair { IfSome (slice_get self.now place) (λ w. IsTrue (is_some w.second)) }
+        requires is_pair { HasSecond self.now place }
         ensures { IfSome (slice_get self.now place)
             (λ w. w.second ≡ Some (record { kind = kind.new; motion = motion.new; addr = addr.new })) }
     {
         let number = self.pairs[place].second.unwrap();
-        put_part(
-            &self.tiles,
-            self.crossed.as_slice(),
-            &self.frame,
-            number,
-            kind,
-            motion,
-            addr,
-        );
+        let halves = halves_of(&self.tiles, &self.crossed);
+        put_part(&halves, &self.frame, number, kind, motion, addr);
     }
 }
 
-/// Returns the motion and the kind of the tile with this number. The tiles of the window come first in the
-/// numbering, then the tiles crossed to.
+/// The tiles of a window and those crossed to, by their numbers.
 #[inline]
-fn place_of(tiles: &CoveredTiles, crossed: &[PlacedTile], number: u32) -> (Motion, u8)
-    requires below { number < length (tiles.now ++ crossed.now) }
-    ensures motion { result.0 ≡ (given_tile (tiles.now ++ crossed.now) number).motion }
-    ensures kind { result.1 ≡ (given_tile (tiles.now ++ crossed.now) number).kind }
+fn halves_of<'a>(tiles: &'a CoveredTiles, crossed: &'a Vec<PlacedTile>) -> NumberedTiles<'a>
+    ensures tiles { result.tiles.now ≡ tiles.now }
+    ensures crossed { result.crossed.now ≡ crossed.now.items }
 {
-    let place = number as usize;
-    let count = tiles.len();
-    if place < count {
-        (tiles.motion(place), tiles.kind(place))
-    } else {
-        let tile = &crossed[place - count];
-        (tile.motion, tile.kind)
+    NumberedTiles {
+        tiles,
+        crossed: crossed.as_slice(),
     }
 }
 
 /// Replaces a kind, a motion and an address by those of the tile with this number, lifted to the frame's
-/// depth. The tiles of the window come first in the numbering, then the tiles crossed to.
+/// depth.
 fn put_part(
-    tiles: &CoveredTiles,
-    crossed: &[PlacedTile],
+    halves: &NumberedTiles,
     frame: &Frame,
     number: u32,
     kind: &mut u8,
     motion: &mut Motion,
     addr: &mut Address,
 )
-    requires below { number < length (tiles.now ++ crossed.now) }
-    requires no_deeper { All (IsNoDeeper frame.now) (tiles.now ++ crossed.now) }
+    requires below { HasTile halves.now number }
+    requires no_deeper { All (IsNoDeeper frame.now) (tiles_in halves.now) }
     ensures { record { kind = kind.new; motion = motion.new; addr = addr.new } ≡ lifted_to frame.now
-        (given_tile (tiles.now ++ crossed.now) number) }
+        (given_tile (tiles_in halves.now) number) }
 {
-    put_loose(tiles, crossed, number, kind, motion, addr);
+    halves.put(number, kind, motion, addr);
     frame.raise(addr);
-}
-
-/// Like [`put_part`], for the tile as it was found, not lifted.
-fn put_loose(
-    tiles: &CoveredTiles,
-    crossed: &[PlacedTile],
-    number: u32,
-    kind: &mut u8,
-    motion: &mut Motion,
-    addr: &mut Address,
-)
-    requires below { number < length (tiles.now ++ crossed.now) }
-    ensures { record { kind = kind.new; motion = motion.new; addr = addr.new } ≡ given_tile
-        (tiles.now ++ crossed.now) number }
-{
-    let place = number as usize;
-    let count = tiles.len();
-    if place < count {
-        tiles.put(place, kind, motion, addr);
-    } else {
-        let tile = &crossed[place - count];
-        *kind = tile.kind;
-        *motion = tile.motion;
-        *addr = tile.addr.copy();
-    }
 }

@@ -50,8 +50,8 @@ impl Guesses {
         })
     }
 
-    /// Returns the place of the tile with this motion and kind, like `number_of`. `shape` is the shape of the
-    /// half for which it is wanted.
+    /// Returns the place of the tile with this motion and kind: the guess, if it is right; otherwise by search
+    /// in the order. `shape` is the shape of the half for which it is wanted.
     pub(crate) fn number_of(
         &mut self,
         tiles: &CoveredTiles,
@@ -64,7 +64,11 @@ impl Guesses {
     {
         let shape = usize::from(shape);
         let guess = self.places[shape] as usize;
-        let place = looked_up(tiles, guess, motion, kind)?;
+        let place = if is_there(tiles, guess, motion, kind) {
+            guess
+        } else {
+            tiles.number_of(motion, kind)?
+        };
         self.places[shape] = match self.next.get(place) {
             Some(next) => *next,
             None => NOWHERE,
@@ -76,19 +80,6 @@ impl Guesses {
 /// Returns the shape of a tile with this motion and kind.
 pub(crate) fn shape_of(motion: &Motion, kind: u8) -> u8 {
     motion.turn % 16 * 16 + kind % 16
-}
-
-/// Returns the place of the tile with this motion and kind: the guess, if it is right; otherwise by search in
-/// the order.
-fn looked_up(tiles: &CoveredTiles, guess: usize, motion: &Motion, kind: u8) -> Option<usize>
-    requires in_order { AreInOrder tiles.now }
-    ensures found { IfSome result (IsPlacedAt tiles.now motion.now kind) }
-{
-    if is_there(tiles, guess, motion, kind) {
-        Some(guess)
-    } else {
-        tiles.number_of(motion, kind)
-    }
 }
 
 /// Returns true only if the tile at a place has this motion and kind.

@@ -3,41 +3,37 @@ ghost use Rattle.std.specs.Prelude.{◌≡◌, ◌⊎◌, ℕ, ◌<◌, false, g
 ghost use Rattle.theory_walks.specs.Frames.{FrameValue, IsFrameOf};
 ghost use Rattle.rule_model.specs.Tiling.{tiling_of};
 ghost use Rattle.half_glue.specs.Given.{AreGiven};
-ghost use Rattle.half_glue.specs.Inner.{AreSought, IsOfPair, IsInnerPair, AreInner, AreRising};
+ghost use Rattle.half_glue.specs.Inner.{IsOfPair, IsInnerPair, AreInner, AreRising};
 ghost use Rattle.half_glue.specs.Pairs.{ArePresent};
+ghost use Rattle.half_glue.specs.Searches.{IsWindowSearch};
 
-use crate::covered_half::half_among;
 use crate::glue_laws::glue_laws;
-use crate::glue_side::GlueSide;
 use crate::guesses::Guesses;
 use crate::pairs::{Pair, is_less};
+use crate::window_search::WindowSearch;
 use std::alloc::Global;
-use tile_place::machine::Machine;
 use tile_shape::no_memory::NoMemory;
-use window_cover::covered_tiles::CoveredTiles;
 
 /// Finds the whole tiles whose tiles are all in a window, by the numbers of their first tiles. Each is found
 /// by its first tile alone. Marks the tiles of those found as taken.
 pub(crate) fn inner_pairs(
     alloc: Global,
-    machine: &Machine,
-    sides: &[Option<GlueSide>],
-    tiles: &CoveredTiles,
+    search: &WindowSearch,
     guesses: &mut Guesses,
     taken: &mut [bool],
 ) -> Result<Vec<Pair>, NoMemory>
-    requires sought { AreSought (tiling_of machine.now) sides.now tiles.now }
-    requires as_many { length taken.old ≡ length tiles.now }
+    requires sought { IsWindowSearch search.now }
+    requires as_many { length taken.old ≡ length search.now.tiles.now }
     requires none_taken { (k : ℕ) → ¬ IsTrue (get_or taken.old k false) }
-    ensures as_many { length taken.new ≡ length tiles.now }
-    ensures rising { IfOk result (λ pairs. AreRising (length tiles.now) pairs.items) }
-    ensures inner { IfOk result (λ pairs. (f : FrameValue) → IsFrameOf (tiling_of machine.now) f
-        → AreGiven (tiling_of machine.now) f tiles.now
-        → AreInner (tiling_of machine.now) f tiles.now pairs.items taken.new) }
+    ensures as_many { length taken.new ≡ length search.now.tiles.now }
+    ensures rising { IfOk result (λ pairs. AreRising (length search.now.tiles.now) pairs.items) }
+    ensures inner { IfOk result (λ pairs. (f : FrameValue) → IsFrameOf (tiling_of search.now.machine.now) f
+        → AreGiven (tiling_of search.now.machine.now) f search.now.tiles.now
+        → AreInner (tiling_of search.now.machine.now) f search.now.tiles.now pairs.items taken.new) }
 {
     let mut pairs = Vec::new(alloc);
-    for number in 0..tiles.len() {
-        if let Some(pair) = inner_pair(machine, sides, tiles, guesses, number) {
+    for number in 0..search.tiles.len() {
+        if let Some(pair) = inner_pair(search, guesses, number) {
             mark(taken, &pair);
             pairs.push(pair)?;
         }
@@ -46,25 +42,19 @@ pub(crate) fn inner_pairs(
 }
 
 /// Returns the whole tile whose first tile has this number, if all its tiles are found in the window.
-fn inner_pair(
-    machine: &Machine,
-    sides: &[Option<GlueSide>],
-    tiles: &CoveredTiles,
-    guesses: &mut Guesses,
-    number: usize,
-) -> Option<Pair>
-    requires sought { AreSought (tiling_of machine.now) sides.now tiles.now }
-    requires below { number < length tiles.now }
+fn inner_pair(search: &WindowSearch, guesses: &mut Guesses, number: usize) -> Option<Pair>
+    requires sought { IsWindowSearch search.now }
+    requires below { number < length search.now.tiles.now }
     ensures first { IfSome result (λ pair. pair.first ≡ number) }
-    ensures present { IfSome result (ArePresent (length tiles.now)) }
-    ensures inner { IfSome result (λ pair. (f : FrameValue) → IsFrameOf (tiling_of machine.now) f
-        → AreGiven (tiling_of machine.now) f tiles.now
-        → IsInnerPair (tiling_of machine.now) f tiles.now pair) }
+    ensures present { IfSome result (ArePresent (length search.now.tiles.now)) }
+    ensures inner { IfSome result (λ pair. (f : FrameValue) → IsFrameOf (tiling_of search.now.machine.now) f
+        → AreGiven (tiling_of search.now.machine.now) f search.now.tiles.now
+        → IsInnerPair (tiling_of search.now.machine.now) f search.now.tiles.now pair) }
 {
-    glue_laws(machine);
-    let kind = tiles.kind(number);
+    glue_laws(search.machine);
+    let kind = search.tiles.kind(number);
     let own = number as u32;
-    let side = match &sides[usize::from(kind)] {
+    let side = match &search.sides[usize::from(kind)] {
         Some(side) => side,
         None => {
             return Some(Pair {
@@ -77,8 +67,8 @@ fn inner_pair(
     if !is_less(kind, other.kind) {
         return None;
     }
-    let motion = tiles.motion(number);
-    let second = half_among(machine, side, tiles, guesses, &motion, kind)?;
+    let motion = search.tiles.motion(number);
+    let second = search.half_among(guesses, side, &motion, kind)?;
     Some(Pair {
         first: own,
         second: Some(second),

@@ -13,7 +13,6 @@
 #![tactic(auto)]
 
 mod arranged;
-mod covered_half;
 mod covered_order;
 mod covered_pairs;
 pub mod given_law;
@@ -26,10 +25,14 @@ pub mod glued_tiles;
 mod guesses;
 mod half;
 mod inner_pairs;
+mod kind_edge;
 mod look_up;
-mod merged;
+mod merge;
+mod numbered_tiles;
 mod paired;
 mod pairs;
 pub mod parts_law;
+mod tile_search;
 pub mod whole_laws;
 pub mod whole_tile;
+mod window_search;

@@ -8,24 +8,21 @@ ghost use Rattle.half_glue.specs.Pairs.{ArePairsOf};
 use crate::glue_fault::GlueFault;
 use crate::glue_laws::glue_laws;
 use crate::glue_side::glue_sides;
-use crate::half::other_half;
 use crate::look_up::sorted_keys;
 use crate::pairs::{Pairs, put};
-use edge_tables::steps::Steps;
+use crate::tile_search::TileSearch;
 use lazy_walk::frame::Frame;
 use std::alloc::Global;
-use std::sync::ledger::Ledger;
 use tile_place::machine::Machine;
 use tile_place::placed_tile::PlacedTile;
 
 /// Finds the whole tiles of given tiles, which it takes in their order. The frame grows to the least depth at
 /// which none of their glue edges is on the boundary.
-pub(crate) fn paired<L: Ledger>(
+pub(crate) fn paired(
     alloc: Global,
     machine: &Machine,
     frame: &mut Frame,
     tiles: &[PlacedTile],
-    steps: &mut Steps<L>,
 ) -> Result<Pairs, GlueFault>
     requires to_glue { AreToGlue (tiling_of machine.now) frame.old tiles.now }
     ensures ends { GluesTo (tiling_of machine.now) frame.old frame.new tiles.now result }
@@ -40,16 +37,14 @@ pub(crate) fn paired<L: Ledger>(
         pairs: Vec::with_capacity(alloc, count)?,
         crossed: Vec::new(alloc),
     };
+    let search = TileSearch {
+        machine,
+        sides: sides.as_slice(),
+        tiles,
+        keys: keys.as_slice(),
+    };
     for number in 0..count {
-        let found = other_half(
-            machine,
-            frame,
-            sides.as_slice(),
-            keys.as_slice(),
-            tiles,
-            number,
-            steps,
-        )?;
+        let found = search.other_half(frame, number)?;
         put(&mut made, tiles, number, found)?;
     }
     Ok(made)

@@ -1,7 +1,7 @@
 -- How many figures a number has, and a text behind one figure or sign more.
-use Rattle.std.proofs.Common.{◌≡◌, ℕ, ◌+◌, ◌-◌, ◌<◌, ◌≤◌, ◌^◌, ◌∙◌, ℤ, pos, negsuc, ◌<ℤ◌, unsigned_abs, List, ◌∷◌, ◌++◌, length, drop, set, refl, ap, arith, append_assoc}
+use Rattle.std.proofs.Common.{◌≡◌, ℕ, ◌+◌, ◌-◌, ◌<◌, ◌≤◌, ◌^◌, ◌∙◌, ℤ, pos, negsuc, ◌<ℤ◌, unsigned_abs, List, [], ◌∷◌, ◌++◌, length, length-append, drop, take, set, refl, ap, arith, append_assoc}
 use Rattle.std.proofs.lemmas.Int.{ints}
-use Rattle.std.proofs.lemmas.List.{drop-set, length-set}
+use Rattle.std.proofs.lemmas.List.{drop-set, length-set, take_at}
 use Rattle.std.specs.Fmt.{decimal, signed_decimal}
 use Rattle.tile_shape.specs.Text.{comma, slash}
 use Rattle.std.proofs.lemmas.Fmt.{decimal_digit, length-decimal-le, decimal_nonempty}
@@ -65,11 +65,27 @@ four_bytes child parent end buf small other some inside =
       decimal_digit parent other,
     ) refl
 
--- four numbers, each but the first with a comma before it, as they are read
-pub four_numbers : (read3 read2 read1 read0 a3 a2 a1 a0 : ℤ) (old b3 b2 b1 c3 c2 c1 new : List ℕ) → read3 ≡ a3 → read2 ≡ a2 → read1 ≡ a1 → read0 ≡ a0
-    → b3 ≡ signed_decimal read3 ++ old → c3 ≡ comma ∷ b3 → b2 ≡ signed_decimal read2 ++ c3 → c2 ≡ comma ∷ b2
-    → b1 ≡ signed_decimal read1 ++ c2 → c1 ≡ comma ∷ b1 → new ≡ signed_decimal read0 ++ c1
-    → new ≡ (signed_decimal a0 ++ comma ∷ (signed_decimal a1 ++ comma ∷ (signed_decimal a2 ++ comma ∷ signed_decimal a3))) ++ old
-four_numbers read3 read2 read1 read0 a3 a2 a1 a0 old b3 b2 b1 c3 c2 c1 new i3 i2 i1 i0 e1 e2 e3 e4 e5 e6 e7 =
-    let all : new ≡ signed_decimal a0 ++ comma ∷ (signed_decimal a1 ++ comma ∷ (signed_decimal a2 ++ comma ∷ (signed_decimal a3 ++ old))) = cc in
+-- two numbers, a comma behind each
+pub two_numbers : (f s : ℤ) (old a1 a2 a3 a4 line : List ℕ) → a1 ≡ comma ∷ old → a2 ≡ signed_decimal s ++ a1 → a3 ≡ comma ∷ a2
+    → a4 ≡ signed_decimal f ++ a3 → line ≡ a4 → line ≡ (signed_decimal f ++ comma ∷ (signed_decimal s ++ comma ∷ [])) ++ old
+two_numbers f s old a1 a2 a3 a4 line e1 e2 e3 e4 e5 =
+    let all : line ≡ signed_decimal f ++ comma ∷ (signed_decimal s ++ comma ∷ old) = cc in
+    all ∙ simp append_assoc
+
+-- what was put before a text
+pub text_before : (after before text : List ℕ) (n : ℕ) → after ≡ text ++ before → n ≡ length after - length before → take n after ≡ text
+text_before after before text n e size =
+    let long : length after ≡ length text + length before = ap length e ∙ length-append text before in
+    ap (λ t. take n t) e ∙ take_at text before n (omega arith)
+
+-- a turn and four numbers, as they are read, the first two put as one text
+pub motion_numbers : (turn : ℕ) (read3 read2 read1 read0 a3 a2 a1 a0 : ℤ) (old b3 c3 b2 p q new : List ℕ)
+    → read3 ≡ a3 → read2 ≡ a2 → read1 ≡ a1 → read0 ≡ a0
+    → b3 ≡ signed_decimal read3 ++ old → c3 ≡ comma ∷ b3 → b2 ≡ signed_decimal read2 ++ c3
+    → p ≡ (signed_decimal read0 ++ comma ∷ (signed_decimal read1 ++ comma ∷ [])) ++ b2 → q ≡ 32 ∷ p → new ≡ decimal turn ++ q
+    → new ≡ (decimal turn ++ 32 ∷ (signed_decimal a0 ++ comma ∷ (signed_decimal a1 ++ comma
+    ∷ (signed_decimal a2 ++ comma ∷ signed_decimal a3)))) ++ old
+motion_numbers turn read3 read2 read1 read0 a3 a2 a1 a0 old b3 c3 b2 p q new i3 i2 i1 i0 e1 e2 e3 e4 e5 e6 =
+    let all : new ≡ decimal turn ++ 32 ∷ ((signed_decimal a0 ++ comma ∷ (signed_decimal a1 ++ comma ∷ []))
+        ++ (signed_decimal a2 ++ comma ∷ (signed_decimal a3 ++ old))) = cc in
     all ∙ simp append_assoc

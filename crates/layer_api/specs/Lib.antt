@@ -3,3 +3,4 @@ pub mod ListText
 pub mod CensusText
 pub mod SvgText
 pub mod LayerText
+pub mod KeptPair

@@ -4,11 +4,9 @@
 //! digits of a number from the last one on, so this order needs no second pass.
 ghost use Rattle.std.specs.Prelude.{◌≡◌, ◌+◌, ◌*◌, ◌%◌, ◌<◌, ◌≤◌, [], ◌++◌, ◌∷◌, map, length, take, drop, IsTrue};
 ghost use Rattle.std.specs.Fmt.{decimal, signed_decimal};
-ghost use Rattle.cyclo_points.specs.Text.{point_text};
 ghost use Rattle.tile_shape.specs.Text.{digit_text, digits_text, comma};
 ghost use Rattle.tile_shape.specs.Views.{step_of};
 
-use cyclo_points::point::Point;
 use itoa::write_digits;
 use tile_shape::step::Step;
 
@@ -27,23 +25,6 @@ pub(crate) fn write_signed(number: i64, buf: &mut [u8], end: usize) -> usize
     }
     buf[start - 1] = b'-';
     start - 1
-}
-
-/// Writes a point: its four coefficients, with commas between them.
-pub(crate) fn write_point(point: &Point, buf: &mut [u8], end: usize) -> usize
-    requires room { 87 ≤ end }
-    requires inside { end ≤ length buf.old }
-    ensures written { drop result buf.new ≡ point_text point.now ++ drop end buf.old }
-    ensures before { result ≤ end }
-    ensures at_most { end ≤ result + 87 }
-{
-    let fourth = write_signed(point.c[3], buf, end) - 1;
-    buf[fourth] = b',';
-    let third = write_signed(point.c[2], buf, fourth) - 1;
-    buf[third] = b',';
-    let second = write_signed(point.c[1], buf, third) - 1;
-    buf[second] = b',';
-    write_signed(point.c[0], buf, second)
 }
 
 /// Writes a number below 256 in decimal.

@@ -12,6 +12,7 @@ mod backwards;
 pub mod boxed;
 pub mod drawn;
 pub mod format;
+mod kept_pair;
 pub mod layer;
 pub mod line;
 pub mod part;

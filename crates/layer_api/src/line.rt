@@ -2,11 +2,13 @@
 ghost use Rattle.std.specs.Prelude.{◌≡◌, ◌+◌, ◌-◌, ◌<◌, ◌≤◌, [], ◌∷◌, ◌++◌, length, drop};
 ghost use Rattle.std.specs.Fmt.{decimal, signed_decimal};
 ghost use Rattle.cyclo_points.specs.Text.{motion_text};
+ghost use Rattle.layer_api.specs.KeptPair.{pair_text};
 ghost use Rattle.layer_api.specs.declared.line.TheConstants.{LINE_ROOM};
 ghost use Rattle.tile_shape.specs.Text.{address_text};
 ghost use Rattle.tile_shape.specs.Views.{address_of};
 
-use crate::backwards::{overwrite, write_point, write_signed, write_small, write_steps};
+use crate::backwards::{overwrite, write_signed, write_small, write_steps};
+use crate::kept_pair::KeptPair;
 use cyclo_points::motion::Motion;
 use itoa::write_digits;
 use std::marker::Model;
@@ -22,16 +24,19 @@ pub struct Line {
     bytes: [u8; LINE_ROOM],
     /// Where the line begins.
     start: usize,
+    /// The first two coefficients of the last motion, with their text.
+    kept: KeptPair,
 }
 
 impl Model for Line {
+    ghost use Rattle.layer_api.specs.KeptPair.{IsPairKept};
     ghost use Rattle.std.specs.Prelude.{ℕ, List, ◌≤◌, drop};
 
     ghost Value = { List ℕ };
 
     ghost view = { λ l. drop l.start l.bytes };
 
-    ghost invariant = { λ l. l.start ≤ 1536 };
+    ghost invariant = { λ l. (l.start ≤ 1536) × IsPairKept l.kept };
 }
 
 impl Line {
@@ -42,6 +47,7 @@ impl Line {
         Line {
             bytes: [0; LINE_ROOM],
             start: LINE_ROOM,
+            kept: KeptPair::none(),
         }
     }
 
@@ -122,9 +128,47 @@ impl Line {
         ensures motion { self.new ≡ motion_text motion.now ++ self.old }
         ensures at_most { length self.new ≤ length self.old + 91 }
     {
-        let shift = write_point(&motion.shift, &mut self.bytes, self.start) - 1;
-        self.bytes[shift] = b' ';
-        self.start = write_small(motion.turn, &mut self.bytes, shift);
+        let c = &motion.shift.c;
+        self.put_signed(c[3]);
+        self.put(b',');
+        self.put_signed(c[2]);
+        self.put_pair(c[0], c[1]);
+        self.put(b' ');
+        self.put_small(motion.turn);
+    }
+
+    /// Puts two numbers in front, a comma after each. If they are those of the call before, their text is
+    /// copied: tiles come in order, so the first coefficients seldom change.
+    #[inline]
+    fn put_pair(&mut self, first: i64, second: i64)
+        requires room { length self.old + 44 ≤ LINE_ROOM }
+        ensures pair { self.new ≡ pair_text first second ++ self.old }
+        ensures at_most { length self.new ≤ length self.old + 44 }
+    {
+        let kept = self.kept;
+        if kept.has(first, second) {
+            self.put_last(&kept.text, kept.length);
+        } else {
+            self.put_and_keep(first, second);
+        }
+    }
+
+    /// Puts two numbers in front, a comma after each, and keeps their text.
+    #[inline(never)]
+    fn put_and_keep(&mut self, first: i64, second: i64)
+        requires room { length self.old + 44 ≤ LINE_ROOM }
+        ensures pair { self.new ≡ pair_text first second ++ self.old }
+        ensures at_most { length self.new ≤ length self.old + 44 }
+    {
+        let before = self.as_bytes().len();
+        self.put(b',');
+        self.put_signed(second);
+        self.put(b',');
+        self.put_signed(first);
+        let mut kept = self.kept;
+        let line = self.as_bytes();
+        kept.keep(first, second, &line[..line.len() - before]);
+        self.kept = kept;
     }
 
     /// Puts the text of an address in front.

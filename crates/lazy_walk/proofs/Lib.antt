@@ -3,3 +3,4 @@ mod Outs
 mod Holders
 mod Leasts
 mod Searching
+mod PathEdges

@@ -29,7 +29,10 @@ use Rattle.list_verify.specs.declared.walk.Walk.{Walk}
 use Rattle.list_verify.specs.Walk.{tiling_in, entries_in, IsNotRight}
 use Rattle.list_verify.specs.Walked.{IsStoppedBy, AreRightLines, IsStrayFault}
 use Rattle.list_verify.proofs.Depths.{frame-not_beyond, lines-not_beyond, enough-grown}
-use Rattle.list_verify.proofs.SaidOfLifted.{stranger-caused, double-caused, lines-in, verified, walk-said}
+use Rattle.list_verify.proofs.LiftedFaults.{stranger-caused, double-caused}
+use Rattle.list_verify.proofs.LiftedLines.{lines-in}
+use Rattle.list_verify.proofs.LiftedRight.{verified}
+use Rattle.list_verify.proofs.SaidOfLifted.{walk-said}
 use Rattle.list_verify.proofs.Verdicts.{text-caused}
 use Rattle.list_verify.proofs.WalkLaws.{brings}
 

@@ -1,22 +1,18 @@
 -- The text that is written of the tiles of a window is a right listing of it.
-use Rattle.std.proofs.Common.{◌≡◌, inl, inr, ℕ, suc, ◌<◌, ◌≤◌, ◌^◌, max, Bool, true, false, cond, List, [], ◌∷◌, map, length, nat_le, Result, Ok, Err, refl, sym, ap, ap₂, ◌∙◌, subst, arith}
+use Rattle.std.proofs.Common.{◌≡◌, inl, inr, ℕ, ◌<◌, ◌≤◌, ◌^◌, max, Bool, true, false, cond, List, [], ◌∷◌, map, length, nat_le, Result, Ok, Err, refl, sym, ap, ap₂, ◌∙◌, subst, arith}
 use Rattle.std.specs.List.{AllByRecursion}
 use Rattle.theory_addresses.specs.Address.{Address, depth}
 use Rattle.theory_addresses.specs.Search.{IsAmong}
-use Rattle.theory_addresses.proofs.Lists.{AllByRecursion-among, IsAmong-map}
-use Rattle.cyclo_points.specs.declared.order.Order.{Order}
-use Rattle.cyclo_points.specs.declared.order.Order.TheVariants.{Four, Six, Eight, Ten}
 use Rattle.cyclo_points.specs.Order.{points_of, is_refused}
 use Rattle.cyclo_points.specs.Point.{point_in, IsOf}
-use Rattle.cyclo_points.proofs.Refusal.{within-some_beyond, some_beyond-refused}
 use Rattle.theory_dissection.specs.Accepted.{AcceptedRule}
 use Rattle.theory_edge_to_edge.specs.Contacts.{tables_of}
 use Rattle.theory_addresses.specs.Tables.{child_kinds}
 use Rattle.theory_frames.specs.Frame.{at_level, IsTileOf}
 use Rattle.theory_walks.specs.Ancestors.{full}
-use Rattle.theory_walks.specs.Frames.{FrameValue, whole, IsFrameOf, GrowsTo}
+use Rattle.theory_walks.specs.Frames.{FrameValue, whole, IsFrameOf}
 use Rattle.lazy_walk.specs.Standing.{Stands}
-use Rattle.theory_walks.proofs.InFull.{by_tables, level-grown}
+use Rattle.theory_walks.proofs.InFull.{by_tables}
 use Rattle.theory_walks.proofs.Walks.{StillFits}
 use Rattle.listing_text.specs.Limits.{most_lines}
 use Rattle.listing_text.specs.Lines.{lines_in}
@@ -24,7 +20,7 @@ use Rattle.listing_text.specs.Listing.{Entry, entries_from, listing_in}
 use Rattle.listing_text.specs.declared.listing_fault.ListingFault.{ListingFault}
 use Rattle.listing_text.specs.declared.listing_fault.ListingFault.TheVariants.{TooLong}
 use Rattle.std.proofs.lemmas.Bool.{leb-true}
-use Rattle.listing_text.specs.Written.{entries_text, CanBeListed, CanAllBeListed}
+use Rattle.listing_text.specs.Written.{entries_text, CanAllBeListed}
 use Rattle.theory_listings.specs.FrameListing.{deepest_listed, AreOfFrame, AreUnrefused}
 use Rattle.plane_geom.specs.declared.window.Window.{Window}
 use Rattle.rule_model.specs.declared.rule.Rule.{Rule}
@@ -37,32 +33,13 @@ use Rattle.tile_shape.specs.Usable.{AreUsable}
 use Rattle.tile_shape.specs.Views.{address_of}
 use Rattle.theory_windows.specs.FramePatch.{frame_patch, tile_of_ancestor}
 use Rattle.theory_windows.specs.FrameWindow.{AreAllThatMeet, IsLeastDepth}
-use Rattle.theory_windows.proofs.Members.{no-more}
-use Rattle.window_cover.specs.Limits.{IsCoverWithinLimits}
-use Rattle.window_cover.specs.Windows.{TileOf, box_of, AreDrawn, IsLeastForWindow}
+use Rattle.window_cover.specs.Windows.{TileOf, box_of}
 use Rattle.window_cover.proofs.FrameNames.{lifted-self}
 use Rattle.list_verify.specs.Depth.{IsListedDepth, IsEnoughListed}
 use Rattle.list_verify.specs.Listing.{tile_listed, tiles_listed, IsVerified}
-use Rattle.list_verify.specs.Written.{tile_entry, tile_entries, IsListedAs, IsWrittenOf}
-
--- what is known of the tiles of a window, and of the text that is written of them
-pub record IsListOf (t : Tiling) (f g : FrameValue) (w : Window) (tiles : List PlacedTile) (text : List ℕ) : Type 0 where
-  pub grows : GrowsTo t f g
-  pub drawn : AreDrawn t g w (map (placed_in t.order) tiles)
-  pub stand : AllByRecursion (Stands t g) tiles
-  pub least : IsLeastForWindow t f w (length g.digits)
-  pub within : IsCoverWithinLimits t f w
-  pub written : IsWrittenOf tiles text
-  pub some : 0 < length tiles
-
-few_turns : (o : Order) → (points_of o).order ≤ 10
-few_turns Four = omega arith
-few_turns Six = omega arith
-few_turns Eight = omega arith
-few_turns Ten = omega arith
-
-same_depth : (m n : ℕ) → m ≤ n → n ≤ m → m ≡ n
-same_depth m n h k = omega arith
+use Rattle.list_verify.specs.Written.{tile_entry, tile_entries, IsListedAs}
+use Rattle.list_verify.proofs.WrittenTiles as written
+use Rattle.list_verify.proofs.WrittenTiles.{IsListOf}
 
 module _ (m : Rule) (settled : IsSettled m) (usable : AreUsable (children (tiling_of m))) (fits : StillFits (children (tiling_of m)))
     (back : (entries : List Entry) → CanAllBeListed (children (tiling_of m)) entries
@@ -91,79 +68,13 @@ module _ (m : Rule) (settled : IsSettled m) (usable : AreUsable (children (tilin
   listing = tiles_listed t entries
 
   own_level : at_level F d ≡ whole g
-  own_level = level-grown m settled fits f is g list.grows
+  own_level = written.own_level m settled usable fits back f g is w tiles text list
 
   its_stand : (x : PlacedTile) → IsAmong x tiles → Stands t g x
-  its_stand x i = AllByRecursion-among (Stands t g) x tiles i list.stand
+  its_stand = written.its_stand m settled usable fits back f g is w tiles text list
 
-  -- ---- none is refused
-  module _ (least : IsLeastDepth P T.rule F (box_of t w) (length f.digits) list.within.drawn_within.depth) where
-    limit_depth : list.within.drawn_within.depth ≡ d
-    limit_depth =
-        same_depth list.within.drawn_within.depth d
-        (list.within.drawn_within.least.least d list.least.not_below list.least.within list.least.holds)
-        (list.least.least list.within.drawn_within.depth least.not_below least.within least.holds)
-
-  abbrev drawn : List (TileOf t)
-  drawn = list.within.drawn_within.drawn
-
-  they_meet : AreDrawn t g w drawn
-  they_meet = subst (λ a. AreAllThatMeet P.real (TileOf t) (frame_patch P T.rule a) (box_of t w) drawn)
-      (ap (at_level F) (limit_depth list.within.drawn_within.least) ∙ own_level)
-      list.within.drawn_within.all_that_meet
-
-  among_drawn : (x : TileOf t) → IsAmong x (map (placed_in t.order) tiles) → IsAmong x drawn
-  among_drawn x i =
-      let there = AllByRecursion-among (λ (y : TileOf t). IsAmong y (frame_patch P T.rule (whole g)).tiles) x
-      (map (placed_in t.order) tiles) i list.drawn.of_patch in
-      (they_meet.meeting x there).0 ((list.drawn.meeting x there).1 i)
-
-  unrefused_one : (x : PlacedTile) → IsAmong x tiles → is_refused t.order (point_in t.order x.motion.shift) ≡ false
-  unrefused_one x i =
-      AllByRecursion-among (λ (y : TileOf t). is_refused t.order y.motion.shift ≡ false) (placed_in t.order x)
-      drawn (among_drawn (placed_in t.order x) (IsAmong-map (placed_in t.order) x tiles i))
-      list.within.drawn_within.none_refused
-
-  count_map : (xs : List PlacedTile) → length (map (placed_in t.order) xs) ≡ length xs
-  count_map [] = refl
-  count_map (x ∷ xs) = ap suc (count_map xs)
-
-  count_entries : (xs : List PlacedTile) → length (tile_entries xs) ≡ length xs
-  count_entries [] = refl
-  count_entries (x ∷ xs) = ap suc (count_entries xs)
-
-  not_many : length tiles ≤ most_lines
-  not_many =
-      let less = no-more (map (placed_in t.order) tiles) drawn list.drawn.distinct among_drawn in
-      let most = list.within.drawn_within.not_too_many in
-      omega (arith, less, most, count_map tiles)
-
-  -- ---- the text is read back
-  can_be : (x : PlacedTile) → IsAmong x tiles → CanBeListed (children t) (tile_entry x)
-  can_be x i =
-      let s = its_stand x i in
-      let deep = s.at_depth in
-      let most = list.grows.is_frame.at_most_64 in
-      let turn = s.turn_below in
-      let few = few_turns m.order in
-      record {
-        address = record { fits = s.of_frame.fits; has_room = omega (arith, deep, most) };
-        turn = omega (arith, turn, few);
-        four = AllByRecursion-among (λ (tile : PlacedTile). length tile.motion.shift.c ≡ 4) x tiles i list.written.four;
-        within = within-some_beyond x.motion.shift (some_beyond-refused t.order x.motion.shift s.in_order ∙ unrefused_one x i);
-      }
-
-  can_all : (xs : List PlacedTile) → ((x : PlacedTile) → IsAmong x xs
-      → CanBeListed (children t) (tile_entry x)) → AllByRecursion (CanBeListed (children t)) (tile_entries xs)
-  can_all [] h = tt
-  can_all (x ∷ xs) h = (h x (inl refl), can_all xs (λ y i. h y (inr i)))
-
-  pub read : listing_in (children t) text ≡ Ok entries
-  read = ap (listing_in (children t)) list.written.is
-      ∙ back entries (record {
-        each = can_all tiles can_be;
-        few = omega (arith, not_many, count_entries tiles);
-      })
+  read : listing_in (children t) text ≡ Ok entries
+  read = written.read m settled usable fits back f g is w tiles text list
 
   -- ---- the depth
   deepest_from : (n : ℕ) → n ≤ d → (xs : List PlacedTile)
@@ -253,12 +164,12 @@ module _ (m : Rule) (settled : IsSettled m) (usable : AreUsable (children (tilin
   verified = record {
     entries = entries;
     read = read;
-    count = sym (count_entries tiles);
+    count = sym (written.count_entries m settled usable fits back f g is w tiles text list tiles);
     right = record {
       of_order = of_order tiles its_stand;
       right = record { depth = d; least = least_there; of_frame = of_frame; all_that_meet = all_that_meet };
     };
-    unrefused = none_refused tiles unrefused_one;
+    unrefused = none_refused tiles (written.unrefused_one m settled usable fits back f g is w tiles text list);
     centre_found = list.within.centre_found;
   }
 
@@ -281,4 +192,4 @@ module _ (m : Rule) (settled : IsSettled m) (usable : AreUsable (children (tilin
   }
 
   pub fits_count : length tiles < 2 ^ 32
-  fits_count = omega (arith, not_many)
+  fits_count = omega (arith, (written.not_many m settled usable fits back f g is w tiles text list))

@@ -26,7 +26,9 @@ use Rattle.list_verify.specs.ListLaws.{HasListLaws, HasWalkLaws}
 use Rattle.list_verify.specs.LookedUp.{IsLookedUp, IsNotFound}
 use Rattle.list_verify.specs.Walk.{IsOnFrame, HasNone, WalkGoesOn, Stops}
 use Rattle.list_verify.specs.Walked.{first_refused_at}
-use Rattle.list_verify.proofs.Came.{HasCome, IsNext, looked-up, not-found}
+use Rattle.list_verify.proofs.Came.{HasCome}
+use Rattle.list_verify.proofs.NextFound.{IsNext, looked-up}
+use Rattle.list_verify.proofs.NotFound.{not-found}
 use Rattle.list_verify.proofs.Sides.{sides-start}
 use Rattle.list_verify.proofs.Start.{come, refused-centre}
 use Rattle.list_verify.proofs.WalkLaws.{brings}

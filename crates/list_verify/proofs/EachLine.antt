@@ -14,7 +14,8 @@ use Rattle.list_verify.specs.Walk.{tiling_in, WalkGoesOn, HasEnded}
 use Rattle.list_verify.specs.Walked.{first_refused_at}
 use Rattle.list_verify.proofs.Chains.{slice_get-at}
 use Rattle.list_verify.proofs.Edges.{next-before, more-length}
-use Rattle.list_verify.proofs.Ended.{not-more, tells}
+use Rattle.list_verify.proofs.WalkedLines.{not-more}
+use Rattle.list_verify.proofs.Ended.{tells}
 use Rattle.list_verify.proofs.Onward.{further}
 use Rattle.list_verify.proofs.WalkLaws.{brings}
 

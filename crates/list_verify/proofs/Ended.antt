@@ -1,10 +1,10 @@
 -- A walk at its end.
-use Rattle.std.proofs.Common.{◌≡◌, ℕ, ◌<◌, ◌≤◌, Bool, true, false, List, map, length, get_or, slice_get, Some, refl, sym, ap, ◌∙◌, subst, arith}
+use Rattle.std.proofs.Common.{◌≡◌, ℕ, ◌<◌, Bool, true, false, List, length, get_or, slice_get, Some, refl, sym, ap, ◌∙◌, subst, arith}
 use Rattle.std.proofs.lemmas.Option.{slice_get_within}
 use Rattle.theory_addresses.specs.Address.{Address, depth}
 use Rattle.theory_addresses.specs.Search.{IsAmong}
-use Rattle.theory_addresses.proofs.Lists.{AllByRecursion-among, AllByRecursion-from, IsAmong-map}
-use Rattle.theory_addresses.proofs.Ranges.{among-place, place-among, slice_get-image}
+use Rattle.theory_addresses.proofs.Lists.{AllByRecursion-from}
+use Rattle.theory_addresses.proofs.Ranges.{among-place, slice_get-image}
 use Rattle.cyclo_points.specs.Order.{points_of, is_refused}
 use Rattle.cyclo_points.specs.Point.{IsOf}
 use Rattle.theory_dissection.specs.Accepted.{AcceptedRule}
@@ -29,16 +29,15 @@ use Rattle.tile_shape.specs.Views.{address_of}
 use Rattle.theory_windows.specs.FramePatch.{frame_patch, in_frame, line_of}
 use Rattle.theory_windows.specs.Outlines.{MeetsBox}
 use Rattle.theory_windows.specs.Patch.{HasAcross}
-use Rattle.theory_windows.proofs.Members.{among-map, no-more}
-use Rattle.std.proofs.lemmas.List.{length-map}
+use Rattle.theory_windows.proofs.Members.{among-map}
 use Rattle.window_cover.specs.Windows.{TileOf, box_of, IsWindow}
-use Rattle.list_verify.specs.FoundLines.{entries_of, AreLinesIn, no_line, tile_of_line, tiles_listed_so_far, IsInPlace, AreFound, AreCrossedBefore}
+use Rattle.list_verify.specs.FoundLines.{entries_of, AreLinesIn, no_line, tile_of_line, tiles_listed_so_far, AreFound, AreCrossedBefore}
 use Rattle.list_verify.specs.Listing.{tile_listed, tiles_listed, AreOfOrder, NamesTileThere, HasAllTiles, HasStray}
 use Rattle.list_verify.specs.ListLaws.{HasListLaws}
 use Rattle.list_verify.specs.Walked.{IsFirstUnmarked, Tells}
-use Rattle.list_verify.proofs.Chains.{get_or-at}
-use Rattle.list_verify.proofs.Lines.{its_names, listing-on, tile-is, line-tile, one-tile}
+use Rattle.list_verify.proofs.Lines.{its_names, listing-on, tile-is, line-tile}
 use Rattle.list_verify.proofs.LineNumbers.{at-number}
+use Rattle.list_verify.proofs.WalkedLines as walked
 
 module _ (m : Rule) (settled : IsSettled m) (fits : StillFits (children (tiling_of m)))
     (L : HasListLaws (points_of m.order)) (f : FrameValue) (w : Window) (fit : IsWindow w)
@@ -68,62 +67,29 @@ module _ (m : Rule) (settled : IsSettled m) (fits : StillFits (children (tiling_
   abbrev tiles : List (TileOf t)
   tiles = tiles_listed_so_far t f lines numbers
 
-  -- a line of the listing is one of the program, with its number
-  record Numbered (x : TileOf t) : Type 0 where
-    line : program.Entry
-    number : ℕ
-    is_line : slice_get lines number ≡ Some line
-    is : x ≡ tile_listed t (entry_of line)
+  abbrev IsNumbered : TileOf t → Type 0
+  IsNumbered x = walked.Numbered m settled fits L f w fit lines are numbers marks found x
 
-  numbered : (x : TileOf t) → IsAmong x listing → Numbered x
-  numbered x i =
-      let e = among-map (tile_listed t) x entries i in
-      let o = among-map entry_of e.0 lines e.1 in
-      let place = among-place o.0 lines o.1 in
-      record { line = o.0; number = place.0; is_line = place.1; is = e.2 ∙ ap (tile_listed t) o.2 }
+  numbered : (x : TileOf t) → IsAmong x listing → IsNumbered x
+  numbered = walked.numbered m settled fits L f w fit lines are numbers marks found
 
-  -- its tile is found exactly where its number is
   tile-number : (line : program.Entry) (i : ℕ) → slice_get lines i ≡ Some line
       → IsAmong (in_frame P T.rule F (address_of line.address)) tiles → IsAmong i numbers
-  tile-number line i at k =
-      let j = among-map (tile_of_line t f lines) (in_frame P T.rule F (address_of line.address)) numbers k in
-      let place = AllByRecursion-among (IsInPlace t f lines) j.0 numbers j.1 found.are_marked.in_place in
-      subst (λ n. IsAmong n numbers) (one-tile m settled fits L f w fit lines are j.0 i place.below (slice_get_within lines i line at)
-      (sym j.2 ∙ sym (tile-is m settled fits L f w fit lines are i line at))) j.1
+  tile-number = walked.tile-number m settled fits L f w fit lines are numbers marks found
 
   number-tile : (line : program.Entry) (i : ℕ) → slice_get lines i ≡ Some line → IsAmong i numbers
       → IsAmong (in_frame P T.rule F (address_of line.address)) tiles
-  number-tile line i at k = subst (λ y. IsAmong y tiles)
-      (tile-is m settled fits L f w fit lines are i line at)
-      (IsAmong-map (tile_of_line t f lines) i numbers k)
+  number-tile = walked.number-tile m settled fits L f w fit lines are numbers marks found
 
   its_order : (line : program.Entry) (i : ℕ) → slice_get lines i ≡ Some line → IsAmong i numbers → IsOf m.order line.motion.shift
-  its_order line i at k = subst (λ (e : program.Entry). IsOf m.order e.motion.shift) (get_or-at lines i line no_line at)
-      (AllByRecursion-among (IsInPlace t f lines) i numbers k found.are_marked.in_place).in_order
-
-  -- ---- no more lines are found than there are
-  pub not-more : length numbers ≤ length lines
-  not-more = few (no-more tiles (map (λ (e : program.Entry). in_frame P T.rule F (address_of e.address)) lines) found.walk.distinct each)
-      (length-map numbers (tile_of_line t f lines)) (length-map lines (λ (e : program.Entry). in_frame P T.rule F (address_of e.address)))
-    where
-      each : (y : TileOf t) → IsAmong y tiles → IsAmong y (map (λ (e : program.Entry). in_frame P T.rule F (address_of e.address)) lines)
-      each y k =
-          let j = among-map (tile_of_line t f lines) y numbers k in
-          let place = AllByRecursion-among (IsInPlace t f lines) j.0 numbers j.1 found.are_marked.in_place in
-          let line = get_or lines j.0 no_line in
-          subst (λ z. IsAmong z (map (λ (e : program.Entry). in_frame P T.rule F (address_of e.address)) lines)) (sym j.2)
-          (IsAmong-map (λ (e : program.Entry). in_frame P T.rule F (address_of e.address)) line lines
-          (place-among line lines j.0 (at-number lines j.0 place.below)))
-
-      few : {a b c e : ℕ} → a ≤ b → a ≡ c → b ≡ e → c ≤ e
-      few h k l = omega arith
+  its_order = walked.its_order m settled fits L f w fit lines are numbers marks found
 
   -- ---- where all edges of the lines found are crossed
   module _ (crossed : AreCrossedBefore t f w lines numbers (length numbers)) where
     all-crossed : AreAllCrossed P T F (box_of t w) listing tiles
     all-crossed x i k e exists meets = at (numbered x i)
       where
-        at : Numbered x → HasAcross P.real (TileOf t) (frame_patch P T.rule F) tiles (line_of P T.rule (in_frame P T.rule F x.address) e)
+        at : IsNumbered x → HasAcross P.real (TileOf t) (frame_patch P T.rule F) tiles (line_of P T.rule (in_frame P T.rule F x.address) e)
         at n =
             let name : in_frame P T.rule F x.address ≡ in_frame P T.rule F (address_of n.line.address) = ap
             (λ (y : TileOf t). in_frame P T.rule F y.address) n.is in

@@ -30,9 +30,13 @@ use Rattle.list_verify.specs.FoundLines.{no_line, IsInPlace, IsCrossedOver, AreM
 use Rattle.list_verify.specs.ListLaws.{HasListLaws, HasWalkLaws}
 use Rattle.list_verify.specs.LookedUp.{IsLookedUp, IsNotFound}
 use Rattle.list_verify.specs.Walk.{IsUnderWay, WalkGoesOn, Stops}
-use Rattle.list_verify.proofs.Came.{HasCome, IsNext, looked-up, not-found}
+use Rattle.list_verify.proofs.Came.{HasCome}
+use Rattle.list_verify.proofs.NextFound.{IsNext, looked-up}
+use Rattle.list_verify.proofs.NotFound.{not-found}
 use Rattle.list_verify.proofs.Chains.{get_or-at}
-use Rattle.list_verify.proofs.Crossing.{place, is-line, of-frame, came, crossed-over, back-below, crossed-back, limited}
+use Rattle.list_verify.proofs.Crossing.{place, is-line, of-frame, came, crossed-over}
+use Rattle.list_verify.proofs.CrossedBack.{back-below, crossed-back}
+use Rattle.list_verify.proofs.CrossingLimit.{limited}
 use Rattle.list_verify.proofs.Edges.{more-among}
 use Rattle.list_verify.proofs.Enough.{not_beyond-edge}
 use Rattle.list_verify.proofs.Sides.{sides-more, sides-put, mark-exists}

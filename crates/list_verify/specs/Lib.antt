@@ -11,4 +11,5 @@ pub mod Verdict
 pub mod OneVerdict
 pub mod ListLaws
 pub mod Written
+pub mod Verifying
 pub mod Walk

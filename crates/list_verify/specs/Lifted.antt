@@ -1,9 +1,12 @@
 -- Lines of a listing that are lifted to one depth.
-use Rattle.std.specs.Prelude.{◌≡◌, ℕ, zero, suc, ◌+◌, List, [], ◌∷◌, map}
-use Rattle.std.specs.List.{AllByRecursion}
-use Rattle.theory_addresses.specs.Address.{Address}
+use Rattle.std.specs.Prelude.{◌≡◌, ℕ, zero, suc, ◌+◌, ◌<◌, ◌^◌, List, [], ◌∷◌, map, length}
+use Rattle.std.specs.List.{All, AllByRecursion}
+use Rattle.theory_addresses.specs.Address.{Address, Fits}
 use Rattle.theory_frames.specs.Frame.{IsTileOf, lifted_in}
-use Rattle.rule_model.specs.Tiling.{Tiling}
+use Rattle.rule_model.specs.Tiling.{Tiling, children}
+use Rattle.theory_walks.specs.Frames.{FrameValue, IsFrameOf, GrowsTo}
+use Rattle.tile_shape.specs.Views.{address_of}
+use Rattle.listing_text.specs.declared.entry.Entry as program
 use Rattle.listing_text.specs.Listing.{Entry}
 use Rattle.theory_listings.specs.FrameListing.{deepest_listed}
 use Rattle.theory_listings.specs.Lines.{IsFirstLine}
@@ -24,6 +27,17 @@ first_lifted f (suc n) (e ∷ entries) = entry_lifted f e ∷ first_lifted f n e
 -- the depth to which lines grow a frame of depth m
 abbrev pub deepest_entry : Tiling → ℕ → List Entry → ℕ
 deepest_entry t m entries = deepest_listed m (tiles_listed t entries)
+
+-- the frame is one of the tiling, and the lines are few and have addresses of its tiles
+pub record CanAllBeLifted (t : Tiling) (f : FrameValue) (lines : List program.Entry) : Type 0 where
+  pub frame : IsFrameOf t f
+  pub fit : All (λ (line : program.Entry). Fits (children t) (address_of line.address)) lines
+  pub few : length lines < 2 ^ 31
+
+-- the frame has grown from f to g, to the greater of its depth and that of the deepest entry
+pub record IsGrownToEntries (t : Tiling) (f g : FrameValue) (entries : List Entry) : Type 0 where
+  pub grows : GrowsTo t f g
+  pub depth : length g.digits ≡ deepest_entry t (length f.digits) entries
 
 -- the lines are of the frame, and the others are the same lines, lifted in it
 pub record AreLifted (kinds : List (List ℕ)) (f : Address) (entries lifted : List Entry) : Type 0 where

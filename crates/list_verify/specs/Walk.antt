@@ -1,5 +1,6 @@
 -- A walk through the lines of a listing: how it begins, what holds on its way, and how it ends.
 use Rattle.std.specs.Prelude.{◌≡◌, ◌⊎◌, ℕ, ◌*◌, ◌<◌, ◌≤◌, ◌^◌, true, List, [], length, slice_get, None, Some, Result, IfErr, OnOk}
+use Rattle.theory_addresses.specs.Search.{IsAmong}
 use Rattle.rule_model.specs.Tiling.{Tiling, tiling_of}
 use Rattle.theory_walks.specs.Frames.{FrameValue, GrowsTo}
 use Rattle.listing_text.specs.Listing.{Entry}
@@ -41,6 +42,16 @@ pub record IsUnderWay (walk : Walk) (f : FrameValue) (found : FoundLines) : Type
       found.marks.items
   pub sides : AreMarkedSides (tiling_in walk) f walk.window.now walk.lines.now found.lines.items
       found.crossed.marks.items
+
+-- the walk begins: none of its lines is found yet
+pub record IsAtStart (walk : Walk) (f : FrameValue) (found : FoundLines) : Type 0 where
+  pub on_frame : IsOnFrame walk f
+  pub none : HasNone (length walk.lines.now) found
+
+-- the walk is under way, and line number i is found
+pub record IsAtLine (walk : Walk) (f : FrameValue) (found : FoundLines) (i : ℕ) : Type 0 where
+  pub under_way : IsUnderWay walk f found
+  pub line_found : IsAmong i found.lines.items
 
 -- it goes on: the frame stays, and so do the lines found, perhaps with more
 pub record WalkGoesOn (walk : Walk) (f g : FrameValue) (old new : FoundLines) : Type 0 where

@@ -8,6 +8,7 @@ ghost use Rattle.tile_shape.specs.Views.{address_of};
 ghost use Rattle.listing_text.specs.Limits.{most_lines};
 ghost use Rattle.window_cover.specs.Windows.{IsWindow};
 ghost use Rattle.list_verify.specs.FoundLines.{entries_of};
+ghost use Rattle.list_verify.specs.Lifted.{CanAllBeLifted};
 ghost use Rattle.list_verify.specs.LineIndex.{IsMultiplier};
 ghost use Rattle.list_verify.specs.Verdict.{IsVerdictOn, IsWholeVerdict};
 
@@ -16,6 +17,7 @@ use crate::lifted_lines::lift_lines;
 use crate::line_index::{LineIndex, multiplier_of_entries};
 use crate::list_fault::ListFault;
 use crate::list_laws::walk_laws;
+use crate::verifier::Verifier;
 use crate::walk::Walk;
 use lazy_walk::frame::Frame;
 use listing_text::entry::Entry;
@@ -51,51 +53,48 @@ pub fn verify_entries(
     one_verdict_law(machine.checked().order());
     let mut entries = entries;
     let multiplier = multiplier_of_entries(entries.as_slice());
-    verdict_of(
+    let verifier = Verifier {
         alloc,
         machine,
-        frame,
         window,
-        entries.as_mut_slice(),
-        multiplier,
-    )
+    };
+    verifier.verdict_of(frame, entries.as_mut_slice(), multiplier)
 }
 
-/// Like [`verify_entries`], in place. The multiplier decides in which bucket an entry is looked for.
-pub(crate) fn verdict_of(
-    alloc: Global,
-    machine: &Machine,
-    frame: &mut Frame,
-    window: &Window,
-    lines: &mut [Entry],
-    multiplier: u64,
-) -> Result<u32, ListFault>
-    requires frame { IsFrameOf (tiling_of machine.now) frame.old }
-    requires window_fits { IsWindow window.now }
-    requires fit { All (λ line. Fits (children (tiling_of machine.now)) (address_of line.address)) lines.old }
-    requires few { length lines.old < 2 ^ 31 }
-    requires below { IsMultiplier multiplier }
-    ensures { IsVerdictOn (tiling_of machine.now) frame.old frame.new window.now (Ok (entries_of lines.old))
-        result }
-{
-    walk_laws(machine);
-    let count = lines.len() as u32;
-    match lift_lines(machine, frame, lines) {
-        Ok(()) => {}
-        Err(fault) => return Err(fault),
-    }
-    let index = match LineIndex::new(alloc, multiplier, lines) {
-        Ok(index) => index,
-        Err(fault) => return Err(fault),
-    };
-    let walk = Walk {
-        machine,
-        window,
-        lines,
-        index: &index,
-    };
-    match walk.run(alloc, frame) {
-        Ok(()) => Ok(count),
-        Err(fault) => Err(fault),
+impl<'a> Verifier<'a> {
+    /// Decides entries by a walk through them, and lifts their addresses in place. The multiplier decides in
+    /// which bucket an entry is looked for.
+    pub(crate) fn verdict_of(
+        &self,
+        frame: &mut Frame,
+        lines: &mut [Entry],
+        multiplier: u64,
+    ) -> Result<u32, ListFault>
+        requires lines { CanAllBeLifted (tiling_of self.now.machine.now) frame.old lines.old }
+        requires window_fits { IsWindow self.now.window.now }
+        requires below { IsMultiplier multiplier }
+        ensures { IsVerdictOn (tiling_of self.now.machine.now) frame.old frame.new self.now.window.now
+            (Ok (entries_of lines.old)) result }
+    {
+        walk_laws(self.machine);
+        let count = lines.len() as u32;
+        match lift_lines(self.machine, frame, lines) {
+            Ok(()) => {}
+            Err(fault) => return Err(fault),
+        }
+        let index = match LineIndex::new(self.alloc, multiplier, lines) {
+            Ok(index) => index,
+            Err(fault) => return Err(fault),
+        };
+        let walk = Walk {
+            machine: self.machine,
+            window: self.window,
+            lines,
+            index: &index,
+        };
+        match walk.run(self.alloc, frame) {
+            Ok(()) => Ok(count),
+            Err(fault) => Err(fault),
+        }
     }
 }

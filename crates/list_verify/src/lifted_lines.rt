@@ -3,11 +3,11 @@ ghost use Rattle.std.specs.Prelude.{◌≡◌, ◌↔◌, ◌<◌, ◌≤◌, �
 ghost use Rattle.std.specs.List.{All};
 ghost use Rattle.theory_addresses.specs.Address.{depth, Fits};
 ghost use Rattle.theory_frames.specs.Frame.{IsTileOf};
-ghost use Rattle.theory_walks.specs.Frames.{whole, IsFrameOf, GrowsTo};
+ghost use Rattle.theory_walks.specs.Frames.{whole};
 ghost use Rattle.rule_model.specs.Tiling.{Tiling, tiling_of, children};
 ghost use Rattle.tile_shape.specs.Views.{address_of};
 ghost use Rattle.list_verify.specs.FoundLines.{entries_of};
-ghost use Rattle.list_verify.specs.Lifted.{deepest_entry, AreLifted, IsStranger};
+ghost use Rattle.list_verify.specs.Lifted.{deepest_entry, CanAllBeLifted, IsGrownToEntries, AreLifted, IsStranger};
 
 use crate::list_fault::ListFault;
 use lazy_walk::frame::Frame;
@@ -67,12 +67,8 @@ pub(crate) fn lift_lines(
     frame: &mut Frame,
     lines: &mut [Entry],
 ) -> Result<(), ListFault>
-    requires frame { IsFrameOf (tiling_of machine.now) frame.old }
-    requires fit { All (λ line. Fits (children (tiling_of machine.now)) (address_of line.address)) lines.old }
-    requires few { length lines.old < 2 ^ 31 }
-    ensures frame { GrowsTo (tiling_of machine.now) frame.old frame.new }
-    ensures depth { length frame.new.digits ≡ deepest_entry (tiling_of machine.now)
-        (length frame.old.digits) (entries_of lines.old) }
+    requires lines { CanAllBeLifted (tiling_of machine.now) frame.old lines.old }
+    ensures grown { IsGrownToEntries (tiling_of machine.now) frame.old frame.new (entries_of lines.old) }
     ensures lifted { OnOk result (AreLifted (children (tiling_of machine.now)) (whole frame.new)
         (entries_of lines.old) (entries_of lines.new)) }
     ensures fault { IfErr result (IsStranger (children (tiling_of machine.now)) (whole frame.new)

@@ -76,8 +76,7 @@ impl LineIndex {
         let address = &lines[line].address;
         let place = bucket_of(address, self.buckets);
         let first = self.last[place];
-        let before = self.before.as_slice();
-        if let Some(_) = find_in(before, first, lines, address, self.buckets) {
+        if let Some(_) = self.find_from(first, lines, address) {
             return Err(ListFault::Double {
                 line: line as u32 + 1,
             });
@@ -94,7 +93,28 @@ impl LineIndex {
         ensures none { IfNone result ((i : ℕ) → ¬ HasAddress lines.now i (address_of address.now)) }
     {
         let first = self.last[bucket_of(address, self.buckets)];
-        find_in(self.before.as_slice(), first, lines, address, self.buckets)
+        self.find_from(first, lines, address)
+    }
+
+    /// Returns the line with an address, in the chain of its bucket, which begins with this line, the last
+    /// one.
+    fn find_from(&self, first: Option<u32>, lines: &[Entry], address: &Address) -> Option<u32>
+        requires index { Indexes self.now lines.now (length self.now.before.items) }
+        requires first { first ≡ last_in (buckets_of self.now.buckets lines.now)
+            (index.bucket_of self.now.buckets (address_of address.now)) (length self.now.before.items) }
+        ensures found { IfSome result (λ i. (i < length self.now.before.items)
+            × HasAddress lines.now i (address_of address.now)) }
+        ensures none { IfNone result ((i : ℕ) → i < length self.now.before.items
+            → ¬ HasAddress lines.now i (address_of address.now)) }
+    {
+        let mut at = first;
+        while let Some(line) = at {
+            if is_same_address(&lines[line as usize].address, address) {
+                return Some(line);
+            }
+            at = self.before[line as usize];
+        }
+        None
     }
 }
 
@@ -145,33 +165,4 @@ fn bucket_of(address: &Address, buckets: Buckets) -> usize
         digest = reduced(u128::from(digest) * multiplier + u128::from(digit));
     }
     (digest % buckets.count as u64) as usize
-}
-
-/// Returns the line with an address, in a chain of lines that begins with the last one of its bucket.
-fn find_in(
-    before: &[Option<u32>],
-    first: Option<u32>,
-    lines: &[Entry],
-    address: &Address,
-    buckets: Buckets,
-) -> Option<u32>
-    requires first { first ≡ last_in (buckets_of buckets lines.now)
-        (index.bucket_of buckets (address_of address.now)) (length before.now) }
-    requires within { length before.now ≤ length lines.now }
-    requires before { (i : ℕ) → i < length before.now
-        → slice_get before.now i ≡ Some (last_in (buckets_of buckets lines.now)
-        (get_or (buckets_of buckets lines.now) i 0) i) }
-    ensures found { IfSome result (λ i. HasAddress lines.now i (address_of address.now)) }
-    ensures below { IfSome result (λ i. i < length before.now) }
-    ensures none { IfNone result ((i : ℕ) → i < length before.now
-        → ¬ HasAddress lines.now i (address_of address.now)) }
-{
-    let mut at = first;
-    while let Some(line) = at {
-        if is_same_address(&lines[line as usize].address, address) {
-            return Some(line);
-        }
-        at = before[line as usize];
-    }
-    None
 }

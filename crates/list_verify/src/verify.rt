@@ -13,12 +13,12 @@ ghost use Rattle.list_verify.specs.Depth.{IsListedDepth, IsEnoughListed};
 ghost use Rattle.list_verify.specs.Listing.{IsVerified};
 ghost use Rattle.list_verify.specs.Verdict.{HasCause, IsTold, IsOfWalk, LacksTiles};
 ghost use Rattle.list_verify.specs.Verdict.{IsVerdict};
+ghost use Rattle.list_verify.specs.Verifying.{IsReady};
 
-use crate::as_written::as_written;
-use crate::entries::verdict_of;
 use crate::laws::one_verdict_law;
 use crate::line_index::multiplier_of;
 use crate::list_fault::ListFault;
+use crate::verifier::Verifier;
 use lazy_walk::frame::Frame;
 use listing_text::reading::read_listing;
 use plane_geom::window::Window;
@@ -89,28 +89,28 @@ pub fn verify(
     ensures too_long { (result ≡ Err faults.TooLong) ↔ (most_lines < length (lines_in listing.now)) }
 {
     one_verdict_law(machine.checked().order());
-    if let Some(count) = as_written(alloc, machine, frame, window, listing) {
+    let verifier = Verifier {
+        alloc,
+        machine,
+        window,
+    };
+    if let Some(count) = verifier.as_written(frame, listing) {
         return Ok(count);
     }
-    by_walk(alloc, machine, frame, window, listing)
+    verifier.by_walk(frame, listing)
 }
 
-/// Like [`verify`], by a walk through the lines, in any order.
-fn by_walk(
-    alloc: Global,
-    machine: &Machine,
-    frame: &mut Frame,
-    window: &Window,
-    listing: &[u8],
-) -> Result<u32, ListFault>
-    requires frame { IsFrameOf (tiling_of machine.now) frame.old }
-    requires window_fits { IsWindow window.now }
-    ensures { IsVerdict (tiling_of machine.now) frame.old frame.new window.now listing.now result }
-{
-    let mut entries = match read_listing(alloc, machine.checked().uses(), listing) {
-        Ok(entries) => entries,
-        Err(fault) => return Err(fault.into()),
-    };
-    let lines = entries.as_mut_slice();
-    verdict_of(alloc, machine, frame, window, lines, multiplier_of(listing))
+impl<'a> Verifier<'a> {
+    /// Decides a listing by a walk through its lines, in any order.
+    fn by_walk(&self, frame: &mut Frame, listing: &[u8]) -> Result<u32, ListFault>
+        requires ready { IsReady self.now frame.old }
+        ensures { IsVerdict (tiling_of self.now.machine.now) frame.old frame.new self.now.window.now
+            listing.now result }
+    {
+        let mut entries = match read_listing(self.alloc, self.machine.checked().uses(), listing) {
+            Ok(entries) => entries,
+            Err(fault) => return Err(fault.into()),
+        };
+        self.verdict_of(frame, entries.as_mut_slice(), multiplier_of(listing))
+    }
 }

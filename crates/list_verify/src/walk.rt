@@ -1,21 +1,22 @@
 //! The walk through the lines of a list.
-ghost use Rattle.std.specs.Prelude.{◌≡◌, ◌<◌, length, None, IfErr, OnOk};
-ghost use Rattle.theory_addresses.specs.Search.{IsAmong};
+ghost use Rattle.std.specs.Prelude.{◌≡◌, ◌<◌, ◌≤◌, ◌+◌, ◌*◌, true, false, length, slice_get, None, Some, IsTrue, IfErr, OnOk};
 ghost use Rattle.theory_windows.specs.Outlines.{MeetsBox};
 ghost use Rattle.cyclo_points.specs.Order.{points_of};
-ghost use Rattle.window_cover.specs.Windows.{box_of};
-ghost use Rattle.list_verify.specs.FoundLines.{IsCrossedOver, AreCrossedOver, edges_of_line, edge_of_line};
-ghost use Rattle.list_verify.specs.Walk.{tiling_in, IsOnFrame, HasNone, IsUnderWay, GoesOnOrStops, Stops, HasEnded, IsRightListing, IsNotRight};
+ghost use Rattle.window_descent.specs.Reach.{AreInReach, IsInReach};
+ghost use Rattle.window_cover.specs.Windows.{box_of, window_box};
+ghost use Rattle.list_verify.specs.FoundLines.{IsCrossedOver, AreCrossedOver, edges_of_line, edge_of_line, line_between};
+ghost use Rattle.list_verify.specs.Walk.{tiling_in, IsOnFrame, IsAtStart, IsAtLine, GoesOnOrStops, Stops, HasEnded, IsRightListing, IsNotRight};
 ghost use Rattle.list_verify.specs.Walked.{first_refused_at};
 
-use crate::crossed_edges::Side;
+use crate::crossed_edges::{CrossedEdges, Side};
 use crate::found_lines::FoundLines;
 use crate::line_index::LineIndex;
+use crate::line_tile::{no_tile, put_line};
 use crate::list_fault::ListFault;
 use crate::list_laws::walk_laws;
-use crate::window_edges::is_left;
+use crate::window_edges::edge_meets;
 use arrayvec::ArrayVec;
-use cyclo_points::motion::Motion;
+use cyclo_points::point::Point;
 use edge_tables::steps::Steps;
 use lazy_walk::frame::Frame;
 use listing_text::entry::Entry;
@@ -25,7 +26,6 @@ use std::marker::Brand;
 use std::sync::ledger::{Blank, Ledger};
 use tile_place::machine::Machine;
 use tile_place::placed_tile::PlacedTile;
-use tile_shape::address::Address;
 
 /// A walk through the lines of a list. It goes from tile to tile across edges that meet the window, and looks
 /// for each tile among the lines.
@@ -70,8 +70,7 @@ impl<'a> Walk<'a> {
         requires name { blank.name ≡ L.name }
         requires parts { blank.parts ≡ L.parts }
         requires some { 0 < blank.parts }
-        requires on_frame { IsOnFrame self.now frame.old }
-        requires none { HasNone (length self.now.lines.now) found.old }
+        requires begins { IsAtStart self.now frame.old found.old }
         ensures ended { OnOk result (HasEnded self.now frame.old frame.new found.new) }
         ensures fault { IfErr result (Stops self.now frame.old frame.new) }
     {
@@ -95,8 +94,7 @@ impl<'a> Walk<'a> {
 
     /// Looks for the tile that holds the centre of the window, and returns the number of its line.
     fn find_centre(&self, frame: &mut Frame, found: &mut FoundLines) -> Result<u32, ListFault>
-        requires on_frame { IsOnFrame self.now frame.old }
-        requires none { HasNone (length self.now.lines.now) found.old }
+        requires begins { IsAtStart self.now frame.old found.old }
         ensures step { GoesOnOrStops self.now frame.old frame.new found.old found.new result }
         ensures centre_found { OnOk result (first_refused_at (tiling_in self.now) frame.old
             self.now.window.now ≡ None) }
@@ -118,15 +116,13 @@ impl<'a> Walk<'a> {
         tile: &mut PlacedTile,
         steps: &mut Steps<L>,
     ) -> Result<(), ListFault>
-        requires under_way { IsUnderWay self.now frame.old found.old }
-        requires line_found { IsAmong line found.old.lines.items }
+        requires at_line { IsAtLine self.now frame.old found.old line }
         ensures step { GoesOnOrStops self.now frame.old frame.new found.old found.new result }
         ensures crossed { OnOk result (AreCrossedOver (tiling_in self.now) frame.old self.now.window.now
             self.now.lines.now found.new.lines.items line
             (edges_of_line (tiling_in self.now) self.now.lines.now line)) }
     {
         walk_laws(self.machine);
-        let order = self.machine.checked().order();
         let own = &self.lines[line as usize];
         let mut corners = ArrayVec::new();
         self.machine
@@ -136,7 +132,7 @@ impl<'a> Walk<'a> {
                 line,
                 edge: edge as u8,
             };
-            if is_left(order, self.window, corners.as_slice(), &found.crossed, side) {
+            if self.is_left(corners.as_slice(), &found.crossed, side) {
                 match self.cross_edge(frame, found, side, tile, steps) {
                     Ok(()) => {}
                     Err(fault) => return Err(fault),
@@ -144,6 +140,25 @@ impl<'a> Walk<'a> {
             }
         }
         Ok(())
+    }
+
+    /// Returns true if an edge of a line's tile, with these corners, meets the window, and has not been
+    /// crossed from its other side.
+    fn is_left(&self, corners: &[Point], crossed: &CrossedEdges, side: Side) -> bool
+        requires exists { side.edge < length corners.now }
+        requires few { length corners.now ≤ 12 }
+        requires within { AreInReach corners.now }
+        requires centre_within { IsInReach self.now.window.now }
+        requires marked { side.line * 12 + side.edge < length crossed.now.marks.items }
+        ensures meets { IsTrue result → MeetsBox (points_of self.now.machine.now.order).real
+            (window_box self.now.machine.now.order self.now.window.now)
+            (line_between self.now.machine.now.order corners.now side.edge) }
+        ensures over { result ≡ false → MeetsBox (points_of self.now.machine.now.order).real
+            (window_box self.now.machine.now.order self.now.window.now)
+            (line_between self.now.machine.now.order corners.now side.edge)
+            → slice_get crossed.now.marks.items (side.line * 12 + side.edge) ≡ Some true }
+    {
+        !crossed.has(side) && edge_meets(self.machine, self.window, corners, side.edge as usize)
     }
 
     /// Crosses an edge, which meets the window, of the tile of a found line, and looks for the tile across. It
@@ -156,8 +171,7 @@ impl<'a> Walk<'a> {
         tile: &mut PlacedTile,
         steps: &mut Steps<L>,
     ) -> Result<(), ListFault>
-        requires under_way { IsUnderWay self.now frame.old found.old }
-        requires line_found { IsAmong side.line found.old.lines.items }
+        requires at_line { IsAtLine self.now frame.old found.old side.line }
         requires edge_exists { side.edge < edges_of_line (tiling_in self.now) self.now.lines.now side.line }
         requires edge_meets { MeetsBox (points_of self.now.machine.now.order).real
             (box_of (tiling_in self.now) self.now.window.now)
@@ -179,30 +193,5 @@ impl<'a> Walk<'a> {
             }
             Err(fault) => Err(fault),
         }
-    }
-}
-
-/// Puts the tile that a line names, with its motion.
-fn put_line(line: &Entry, tile: &mut PlacedTile)
-    ensures kind { tile.new.kind ≡ line.now.address.kind }
-    ensures motion { tile.new.motion ≡ line.now.motion }
-    ensures address { tile.new.addr ≡ line.now.address }
-{
-    tile.kind = line.address.kind;
-    tile.motion = line.motion;
-    tile.addr.kind = line.address.kind;
-    tile.addr.digits.clear();
-    let _ = tile
-        .addr
-        .digits
-        .try_extend_from_slice(line.address.digits.as_slice());
-}
-
-/// Returns a placeholder for a tile.
-fn no_tile() -> PlacedTile {
-    PlacedTile {
-        kind: 0,
-        motion: Motion::default(),
-        addr: Address::new(0),
     }
 }

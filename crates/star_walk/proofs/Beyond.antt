@@ -30,7 +30,8 @@ use Rattle.star_walk.specs.Corners.{CornerOf, vertex_of_base}
 use Rattle.star_walk.specs.Found.{its_edge, deepest_of, corner_name, base_name, IsOnTheWay, HasTurned}
 use Rattle.star_walk.specs.Round.{IsLeastForVertex}
 use Rattle.star_walk.specs.StarLaws.{HasStarLaws}
-use Rattle.star_walk.proofs.Turning.{base-at, own-edge, on-part}
+use Rattle.star_walk.proofs.Turning.{base-at}
+use Rattle.star_walk.proofs.AtLimit.{own-edge, on-part}
 
 module _ (m : Rule) (settled : IsSettled m) (fits : StillFits (children (tiling_of m))) (L : HasStarLaws (points_of m.order))
     (f : FrameValue) (is : IsFrameOf (tiling_of m) f) (i : ℕ) (vertex : i < edges_of (tiling_of m) f.base.kind) where

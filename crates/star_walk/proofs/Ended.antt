@@ -1,26 +1,16 @@
 -- A turn that has come back, with its tiles lifted to the depth of the frame, is the star.
-use Rattle.std.proofs.Common.{◌≡◌, ◌↔◌, ℕ, ◌*◌, ◌^◌, ◌<◌, ◌≤◌, All, List, [], ◌∷◌, length, map, refl, sym, ap, ap₂, ◌∙◌, subst, arith}
+use Rattle.std.proofs.Common.{◌≡◌, ◌↔◌, ℕ, ◌<◌, ◌≤◌, List, [], ◌∷◌, length, map, refl, sym, ap, ◌∙◌, subst, arith}
 use Rattle.std.specs.List.{AllByRecursion, AllZip}
 use Rattle.std.proofs.lemmas.List.{length-map}
-use Rattle.std.proofs.lemmas.List.Elements.{All-from_recursion}
 use Rattle.theory_plane.specs.Plane.{PlanePoint}
 use Rattle.theory_addresses.specs.Address.{Address, depth}
-use Rattle.theory_addresses.proofs.Lists.{AllByRecursion-each}
-use Rattle.cyclo_points.specs.declared.motion.Motion.{Motion}
 use Rattle.cyclo_points.specs.Order.{NumberOf, points_of, is_refused}
-use Rattle.cyclo_points.specs.Motion.{motion_in}
-use Rattle.cyclo_points.specs.Point.{IsOf, IsWithin}
-use Rattle.cyclo_points.proofs.Within.{point_wider}
 use Rattle.theory_dissection.specs.Accepted.{AcceptedRule}
-use Rattle.theory_frames.specs.Frame.{at_level, lifted_in, motion_beside, StandsInFrame}
-use Rattle.theory_frames.proofs.Carried.{some_turn}
-use Rattle.theory_frames.proofs.Frames.{IsWhole, lifted-whole, StandsInFrame-whole}
+use Rattle.theory_frames.specs.Frame.{at_level}
 use Rattle.theory_walks.specs.Ancestors.{full}
 use Rattle.theory_walks.specs.Frames.{FrameValue, whole, IsFrameOf}
-use Rattle.lazy_walk.specs.Standing.{Stands}
-use Rattle.theory_walks.proofs.InFull.{names, deep, level-own, level-grown, same-full, by_level}
-use Rattle.theory_walks.proofs.Walked.{whole-tile_of}
-use Rattle.theory_walks.proofs.Walks.{StillFits, whole-fits}
+use Rattle.theory_walks.proofs.InFull.{names, deep, level-own}
+use Rattle.theory_walks.proofs.Walks.{StillFits}
 use Rattle.rule_model.specs.declared.rule.Rule.{Rule}
 use Rattle.rule_model.specs.Tiling.{Tiling, tiling_of, children}
 use Rattle.theory_substitution.specs.Plane.{plane_point}
@@ -33,7 +23,7 @@ use Rattle.tile_shape.specs.Views.{address_of}
 use Rattle.theory_windows.specs.FramePatch.{growing_frame, frame_patch, in_frame}
 use Rattle.theory_windows.specs.GrowingPatch.{GrowingPatch}
 use Rattle.theory_stars.specs.Corners.{IsCornerAt, IsTurn}
-use Rattle.theory_stars.specs.FrameStar.{corner_named, lifted_corner, AreOfDepth, IsFrameStar}
+use Rattle.theory_stars.specs.FrameStar.{corner_named, lifted_corner, IsFrameStar}
 use Rattle.theory_stars.specs.Round.{IsRound}
 use Rattle.theory_stars.specs.GrownStar.{IsStar}
 use Rattle.star_walk.specs.declared.corner.Corner.{Corner}
@@ -41,8 +31,10 @@ use Rattle.star_walk.specs.Causes.{most_corners, IsStarWithinLimits}
 use Rattle.star_walk.specs.Corners.{CornerOf, corner_in, vertex_of_base}
 use Rattle.star_walk.specs.Found.{IsFoundInTurn, corner_name, base_name, HasTurned, IsRaised}
 use Rattle.star_walk.specs.Round.{AreRound, AreInTurn, IsLeastForVertex}
+use Rattle.star_walk.specs.Sought.{IsStarFound}
 use Rattle.star_walk.specs.StarLaws.{HasStarLaws}
 use Rattle.star_walk.proofs.Turning.{base-at}
+use Rattle.star_walk.proofs.Raised as lift
 
 head-is : {A : Type 0} {a b : A} {us vs : List A} → a ∷ us ≡ b ∷ vs → a ≡ b
 head-is e = cc (e)
@@ -75,88 +67,11 @@ module _ (m : Rule) (settled : IsSettled m) (fits : StillFits (children (tiling_
   abbrev G : GrowingPatch P.real (Placed (NumberOf m.order))
   G = growing_frame P (is_refused m.order) T.rule F
 
-  abbrev n : ℕ
-  n = length g.digits
-
   grown : at_level F (length g.digits) ≡ whole g
-  grown = level-grown m settled fits f is g w.grows
+  grown = lift.grown m settled fits L f is g w.grows
 
   within : length g.digits ≤ depth F
-  within = omega (arith, w.grows.is_frame.at_most_64, deep m settled fits f is)
-
-  -- ---- one corner
-  module _ (c d : Corner) (found : IsFoundInTurn t g most_corners c) (raised : IsRaised g c d) where
-    abbrev a : Address
-    a = address_of c.tile.addr
-
-    abbrev b : Address
-    b = address_of d.tile.addr
-
-    own : IsWhole (children t) (whole g) b
-    own = subst (IsWhole (children t) (whole g)) (sym raised.its_address)
-        (lifted-whole (children t) (whole g) a (whole-fits t fits g w.grows.is_frame) found.of_frame)
-
-    renamed : in_frame P T.rule F b ≡ in_frame P T.rule F a
-    renamed =
-        ap (in_frame P T.rule F) (raised.its_address ∙ ap (λ y. lifted_in y a) (sym grown))
-        ∙ (L.renamed T F (names m settled fits f is) (length g.digits) within a (by_level m settled fits f is g w.grows a found.of_frame)).1
-
-    motion-is : motion_in m.order d.tile.motion ≡ (in_frame P T.rule F b).motion
-    motion-is =
-        ap (motion_in m.order) raised.same_motion ∙ found.motion_is
-        ∙ ap (λ y. (in_frame P T.rule y a).motion) (same-full m settled fits f is g w.grows)
-        ∙ ap (λ (x : Placed (NumberOf m.order)). x.motion) (sym renamed)
-
-    depth-is : depth b ≡ length g.digits
-    depth-is = own.same_depth
-
-    pub lifted-name : lifted_corner F (corner_in m.order d) ≡ corner_name t f c
-    lifted-name = λ j. record { tile = (whole-name ∙ renamed) j; vertex = raised.same_vertex j }
-      where
-        whole-name : record { address = lifted_in F b; motion = motion_in m.order d.tile.motion } ≡ in_frame P T.rule F b
-        whole-name = λ j. record { address = lifted_in F b; motion = motion-is j }
-
-    pub stands : Stands t g d.tile
-    stands = record {
-      its_kind = raised.same_kind ∙ found.its_kind ∙ sym (ap (λ (y : Address). y.kind) raised.its_address);
-      of_frame = whole-tile_of (children t) (whole g) b own;
-      at_depth = own.same_depth;
-      in_frame = subst (StandsInFrame P T.rule (whole g) b) (sym (motion-is ∙ beside))
-          (StandsInFrame-whole P L.points (some_turn m.order) T.rule (whole g) b own);
-      turn_below = subst (λ (y : Motion). y.turn < P.order) (sym raised.same_motion) found.turn_below;
-      in_order = subst (λ (y : Motion). IsOf m.order y.shift) (sym raised.same_motion) found.in_order;
-    }
-      where
-        beside : (in_frame P T.rule F b).motion ≡ motion_beside P T.rule (whole g).digits b.digits
-        beside = ap (λ (y : Address). motion_beside P T.rule y.digits b.digits) (ap (at_level F) depth-is ∙ grown)
-
-    pub shift-within : IsWithin (2 ^ 24) d.tile.motion.shift
-    shift-within = subst (λ (y : Motion). IsWithin (2 ^ 24) y.shift) (sym raised.same_motion)
-        (point_wider (2 ^ 8 * most_corners) (2 ^ 24) _ (omega arith) found.shift_within)
-
-  -- ---- all corners
-  names-lifted : (cs ds : List Corner) → AllByRecursion (IsFoundInTurn t g most_corners) cs
-      → AllZip (IsRaised g) cs ds → map (lifted_corner F) (map (corner_in m.order) ds) ≡ map (corner_name t f) cs
-  names-lifted [] [] h z = refl
-  names-lifted [] (d ∷ ds) h z = absurd z
-  names-lifted (c ∷ cs) [] h z = absurd z
-  names-lifted (c ∷ cs) (d ∷ ds) h z = ap₂ (λ (x : CornerOf t) (xs : List (CornerOf t)). x ∷ xs)
-      (lifted-name c d h.0 z.0) (names-lifted cs ds h.1 z.1)
-
-  all-deep : (cs ds : List Corner) → AllByRecursion (IsFoundInTurn t g most_corners) cs → AllZip (IsRaised g) cs ds
-      → AreOfDepth (length g.digits) (map (corner_in m.order) ds)
-  all-deep [] [] h z = tt
-  all-deep [] (d ∷ ds) h z = absurd z
-  all-deep (c ∷ cs) [] h z = absurd z
-  all-deep (c ∷ cs) (d ∷ ds) h z = (depth-is c d h.0 z.0, all-deep cs ds h.1 z.1)
-
-  pub all-stand : (cs ds : List Corner) → AllByRecursion (IsFoundInTurn t g most_corners) cs
-      → AllZip (IsRaised g) cs ds → AllByRecursion
-      (λ (d : Corner). Stands t g d.tile × IsWithin (2 ^ 24) d.tile.motion.shift) ds
-  all-stand [] [] h z = tt
-  all-stand [] (d ∷ ds) h z = absurd z
-  all-stand (c ∷ cs) [] h z = absurd z
-  all-stand (c ∷ cs) (d ∷ ds) h z = ((stands c d h.0 z.0, shift-within c d h.0 z.0), all-stand cs ds h.1 z.1)
+  within = lift.within m settled fits L f is g w.grows
 
   abbrev AtF : CornerOf t → Type 0
   AtF = IsCornerAt P.real (Placed (NumberOf m.order)) (frame_patch P T.rule F) v
@@ -166,11 +81,11 @@ module _ (m : Rule) (settled : IsSettled m) (fits : StillFits (children (tiling_
   star-named = subst (λ k. IsStar P.real (Placed (NumberOf m.order)) G v (length f.digits) k (base ∷ w.others)) (sym w.depth_is)
       (L.answers G (L.simple T F (names m settled fits f is)) v (length f.digits) base (base-at m settled fits L f is i vertex) w.others w.turn)
 
-  pub least : IsLeastForVertex t f i (length g.digits)
+  least : IsLeastForVertex t f i (length g.digits)
   least = L.least T F (names m settled fits f is) (is_refused m.order) v (length f.digits) (length g.digits) within star-named.least
 
   -- depth 64 is enough, and no more tiles have the vertex there
-  pub within-limits : IsStarWithinLimits t f i
+  within-limits : IsStarWithinLimits t f i
   within-limits =
       let d = deep m settled fits f is in
       let all = L.whole G (L.simple T F (names m settled fits f is)) v (length f.digits) base
@@ -196,7 +111,7 @@ module _ (m : Rule) (settled : IsSettled m) (fits : StillFits (children (tiling_
     others' = map (corner_in m.order) rest
 
     same-names : map (lifted_corner F) (base' ∷ others') ≡ base ∷ w.others
-    same-names = names-lifted corners (first ∷ rest) w.found z ∙ w.names_are
+    same-names = lift.names-lifted m settled fits L f is g w.grows corners (first ∷ rest) w.found z ∙ w.names_are
 
     first-is : lifted_corner F base' ≡ base
     first-is = head-is same-names
@@ -207,7 +122,7 @@ module _ (m : Rule) (settled : IsSettled m) (fits : StillFits (children (tiling_
     frame-star : IsFrameStar P T.rule (whole g) v base' others'
     frame-star = subst (λ y. IsFrameStar P T.rule y v base' others') grown
         (L.star T F (names m settled fits f is) (is_refused m.order) v (length f.digits) (length g.digits)
-        within base' others' (all-deep corners (first ∷ rest) w.found z)
+        within base' others' (lift.all-deep m settled fits L f is g w.grows corners (first ∷ rest) w.found z)
         (subst (IsStar P.real (Placed (NumberOf m.order)) G v (length f.digits) (length g.digits)) (sym same-names) star-named)
         (subst (λ y. IsTurn P.real (Placed (NumberOf m.order)) (frame_patch P T.rule F) y (map (lifted_corner F) others')) (sym first-is)
         (subst (IsTurn P.real (Placed (NumberOf m.order)) (frame_patch P T.rule F) base) (sym rest-is) w.turn)))
@@ -233,11 +148,14 @@ module _ (m : Rule) (settled : IsSettled m) (fits : StillFits (children (tiling_
         one = subst (λ xs. AllZip (IsRaised g) xs (first ∷ rest)) e z
 
         own-name : lifted_corner F base' ≡ corner_name t f c
-        own-name = lifted-name c first h.0 one.0
+        own-name = lift.lifted-name m settled fits L f is g w.grows c first h.0 one.0
+
+        same-tile : in_frame P T.rule F (address_of first.tile.addr) ≡ in_frame P T.rule F (address_of c.tile.addr)
+        same-tile = lift.renamed m settled fits L f is g w.grows c first h.0 one.0
 
         -- its own address names it too
         named : corner_named P T.rule F (address_of first.tile.addr) first.vertex ≡ base
-        named = (λ j. record { tile = renamed c first h.0 one.0 j; vertex = one.0.same_vertex j }) ∙ sym own-name ∙ first-is
+        named = (λ j. record { tile = same-tile j; vertex = one.0.same_vertex j }) ∙ sym own-name ∙ first-is
 
         name-own : base ≡ corner_named P T.rule F (at_level F (length f.digits)) i
         name-own = ap (λ a. corner_named P T.rule F a i) (sym (level-own m settled fits f is))
@@ -249,7 +167,7 @@ module _ (m : Rule) (settled : IsSettled m) (fits : StillFits (children (tiling_
             ↔ (corner_named P T.rule F (address_of first.tile.addr) first.vertex ≡ corner_named P T.rule F
             (at_level F (length f.digits)) i)
         law = L.back T F (names m settled fits f is) v (length f.digits) (length g.digits) few within
-            (address_of first.tile.addr) first.vertex i (depth-is c first h.0 one.0)
+            (address_of first.tile.addr) first.vertex i (lift.depth-is m settled fits L f is g w.grows c first h.0 one.0)
             (subst AtF (sym named) (base-at m settled fits L f is i vertex).0) (subst AtF name-own (base-at m settled fits L f is i vertex).0)
 
   -- ---- as it is answered: there is a corner
@@ -264,22 +182,16 @@ module _ (m : Rule) (settled : IsSettled m) (fits : StillFits (children (tiling_
       none : (c : Corner) (cs : List Corner) → AllZip (IsRaised g) (c ∷ cs) [] → ⊥
       none c cs z = z
 
-  pub star-round : (ds : List Corner) → AllZip (IsRaised g) corners ds → AreRound t g i (map (corner_in m.order) ds)
-  star-round ds z =
-      let d = some-raised ds z in
-      subst (λ ds. AreRound t g i (map (corner_in m.order) ds)) (sym d.2) (round d.0 d.1 (subst (AllZip (IsRaised g) corners) d.2 z))
-
-  pub star-turns : (ds : List Corner) → AllZip (IsRaised g) corners ds → AreInTurn t g i (map (corner_in m.order) ds)
-  star-turns ds z =
+  -- so it is the star of the vertex
+  pub star-found : (ds : List Corner) → AllZip (IsRaised g) corners ds → IsStarFound t f g i ds
+  star-found ds z =
       let c = some-name corners w.names_are in
       let d = some-raised ds z in
-      subst (λ ds. AreInTurn t g i (map (corner_in m.order) ds)) (sym d.2) (in_turn d.0 d.1 (subst (AllZip (IsRaised g) corners) d.2 z) c.0 c.1 c.2)
-
-  pub star-stands : (ds : List Corner) → AllZip (IsRaised g) corners ds → All (λ (c : Corner). Stands t g c.tile) ds
-  star-stands ds z = All-from_recursion (λ (c : Corner). Stands t g c.tile) ds
-      (AllByRecursion-each _ (λ (c : Corner). Stands t g c.tile) ds (λ c h. h.0)
-      (all-stand corners ds w.found z))
-
-  pub star-within : (ds : List Corner) → AllZip (IsRaised g) corners ds → All (λ (c : Corner). IsWithin (2 ^ 24) c.tile.motion.shift) ds
-  star-within ds z = All-from_recursion (λ (c : Corner). IsWithin (2 ^ 24) c.tile.motion.shift) ds
-      (AllByRecursion-each _ (λ (c : Corner). IsWithin (2 ^ 24) c.tile.motion.shift) ds (λ c h. h.1) (all-stand corners ds w.found z))
+      let raised : AllZip (IsRaised g) corners (d.0 ∷ d.1) = subst (AllZip (IsRaised g) corners) d.2 z in
+      subst (IsStarFound t f g i) (sym d.2) (record {
+        round = round d.0 d.1 raised;
+        turning = in_turn d.0 d.1 raised c.0 c.1 c.2;
+        stand = lift.all-in-place m settled fits L f is g w.grows corners (d.0 ∷ d.1) w.found raised;
+        least = least;
+        within = within-limits;
+      })

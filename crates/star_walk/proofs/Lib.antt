@@ -1,5 +1,9 @@
 pub mod InTurn
 pub mod Names
 pub mod Turning
+pub mod Stepped
+pub mod TooMany
+pub mod AtLimit
 pub mod Beyond
+pub mod Raised
 pub mod Ended

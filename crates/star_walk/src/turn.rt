@@ -1,13 +1,12 @@
 //! The tiles around a vertex.
-ghost use Rattle.std.specs.Prelude.{◌≡◌, ◌≤◌, ℕ, ◌↔◌, All, [], length, map, IsTrue, IsOk, IfOk, IfErr, OnOk, OnErr};
+ghost use Rattle.std.specs.Prelude.{◌≡◌, ◌≤◌, ◌↔◌, All, [], length, IsTrue, IfOk, OnOk, OnErr};
 ghost use Rattle.std.specs.List.{AllZip};
 ghost use Rattle.theory_addresses.specs.Address.{depth};
 ghost use Rattle.tile_shape.specs.Views.{address_of};
 ghost use Rattle.rule_model.specs.Tiling.{tiling_of};
-ghost use Rattle.theory_walks.specs.Frames.{whole, GrowsTo};
-ghost use Rattle.star_walk.specs.Corners.{corner_in, HasVertex};
-ghost use Rattle.star_walk.specs.Round.{AreRound, AreInTurn, AreInPlace, IsLeastForVertex};
-ghost use Rattle.star_walk.specs.Causes.{HasStarCause, IsStarWithinLimits};
+ghost use Rattle.theory_walks.specs.Frames.{whole};
+ghost use Rattle.star_walk.specs.Corners.{HasVertex};
+ghost use Rattle.star_walk.specs.Sought.{IsStarFound, EndsStarSearch};
 ghost use Rattle.star_walk.specs.Found.{HasTurned, IsRaised};
 
 use crate::corner::Corner;
@@ -47,28 +46,16 @@ impl Star {
     ) -> Result<(), StarFault>
         requires vertex { HasVertex (tiling_of machine.now) frame.old vertex }
 
-        ensures frame { GrowsTo (tiling_of machine.now) frame.old frame.new }
-
-        // The frame is never deeper than is enough for the vertex, whatever is returned.
-        ensures not_beyond { (n : ℕ) → IsLeastForVertex (tiling_of machine.now) frame.old vertex n
-            → length frame.new.digits ≤ n }
+        // The frame grows, and is never deeper than is enough for the vertex, whatever is returned. The call
+        // succeeds if and only if depth 64 is enough and at most 64 tiles have the vertex there. Each error
+        // comes only for its cause, and leaves no tile.
+        ensures ended { EndsStarSearch (tiling_of machine.now) frame.old frame.new vertex result }
+        ensures none_refused { OnErr result (self.new.corners.items ≡ []) }
 
         // Exactly the tiles of the frame that have the vertex, each exactly once and in its place, with the
         // number of the vertex there. They are in turning order, and the last one leads back to the base.
-        ensures round { OnOk result (AreRound (tiling_of machine.now) frame.new vertex
-            (map (corner_in machine.now.order) self.new.corners.items)) }
-        ensures turning { OnOk result (AreInTurn (tiling_of machine.now) frame.new vertex
-            (map (corner_in machine.now.order) self.new.corners.items)) }
-        ensures stand { OnOk result (AreInPlace (tiling_of machine.now) frame.new self.new.corners.items) }
-        ensures least { OnOk result (IsLeastForVertex (tiling_of machine.now) frame.old vertex
-            (length frame.new.digits)) }
-
-        // The call succeeds if and only if depth 64 is enough and at most 64 tiles have the vertex there.
-        // Each error comes only for its cause, and leaves no tile.
-        ensures within { OnOk result (IsStarWithinLimits (tiling_of machine.now) frame.old vertex) }
-        ensures cause { IfErr result (λ fault. HasStarCause (tiling_of machine.now) frame.new vertex fault) }
-        ensures answered { IsStarWithinLimits (tiling_of machine.now) frame.old vertex → IsOk result }
-        ensures none_refused { OnErr result (self.new.corners.items ≡ []) }
+        ensures star { OnOk result (IsStarFound (tiling_of machine.now) frame.old frame.new vertex
+            self.new.corners.items) }
     {
         let checked = machine.checked();
         star_laws(checked.order());
@@ -97,27 +84,10 @@ pub fn star<L: Ledger>(
 ) -> Result<Star, StarFault>
     requires vertex { HasVertex (tiling_of machine.now) frame.old vertex }
 
-    ensures frame { GrowsTo (tiling_of machine.now) frame.old frame.new }
-
-    // The frame is never deeper than is enough for the vertex, whatever is returned.
-    ensures not_beyond { (n : ℕ) → IsLeastForVertex (tiling_of machine.now) frame.old vertex n
-        → length frame.new.digits ≤ n }
-
-    // Exactly the tiles of the frame that have the vertex, each exactly once and in its place, with the
-    // number of the vertex there. They are in turning order, and the last one leads back to the base.
-    ensures round { IfOk result (λ star. AreRound (tiling_of machine.now) frame.new vertex
-        (map (corner_in machine.now.order) star.corners.items)) }
-    ensures turning { IfOk result (λ star. AreInTurn (tiling_of machine.now) frame.new vertex
-        (map (corner_in machine.now.order) star.corners.items)) }
-    ensures stand { IfOk result (λ star. AreInPlace (tiling_of machine.now) frame.new star.corners.items) }
-    ensures least { OnOk result (IsLeastForVertex (tiling_of machine.now) frame.old vertex
-        (length frame.new.digits)) }
-
-    // The call succeeds if and only if depth 64 is enough and at most 64 tiles have the vertex there. Each
-    // error comes only for its cause.
-    ensures within { OnOk result (IsStarWithinLimits (tiling_of machine.now) frame.old vertex) }
-    ensures cause { IfErr result (λ fault. HasStarCause (tiling_of machine.now) frame.new vertex fault) }
-    ensures answered { IsStarWithinLimits (tiling_of machine.now) frame.old vertex → IsOk result }
+    // As for `find`: how the search ends, and the tiles that have the vertex.
+    ensures ended { EndsStarSearch (tiling_of machine.now) frame.old frame.new vertex result }
+    ensures star { IfOk result (λ star. IsStarFound (tiling_of machine.now) frame.old frame.new vertex
+        star.corners.items) }
 {
     let mut star = Star::new();
     star.find(machine, frame, vertex, steps)?;
@@ -135,13 +105,9 @@ fn turn<L: Ledger>(
 ) -> Result<(), StarFault>
     requires none_yet { corners.old.items ≡ [] }
     requires vertex { HasVertex (tiling_of machine.now) frame.old vertex }
-    ensures frame { GrowsTo (tiling_of machine.now) frame.old frame.new }
-    ensures not_beyond { (n : ℕ) → IsLeastForVertex (tiling_of machine.now) frame.old vertex n
-        → length frame.new.digits ≤ n }
+    ensures ended { EndsStarSearch (tiling_of machine.now) frame.old frame.new vertex result }
     ensures turned { OnOk result (HasTurned (tiling_of machine.now) frame.old frame.new vertex
         corners.new.items) }
-    ensures cause { IfErr result (λ fault. HasStarCause (tiling_of machine.now) frame.new vertex fault) }
-    ensures answered { IsStarWithinLimits (tiling_of machine.now) frame.old vertex → IsOk result }
 {
     let checked = machine.checked();
     star_laws(checked.order());

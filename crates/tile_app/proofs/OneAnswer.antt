@@ -5,7 +5,7 @@ use Rattle.theory_addresses.specs.Address.{Address}
 use Rattle.addr_calc.specs.declared.calc_fault.CalcFault.{CalcFault}
 use Rattle.addr_calc.specs.Script.{Outcome as ScriptOutcome, IsOutcome}
 use Rattle.addr_calc.proofs.Faults.{OneText, fault_once}
-use Rattle.addr_calc.proofs.OneAnswer.{FitsAreShort}
+use Rattle.addr_calc.proofs.OneEffect.{FitsAreShort}
 use Rattle.call_words.specs.Request.{Request, request_in, rule_asked}
 use Rattle.call_words.specs.Request.Request.{Place, Neighbour, Walk, Draw, Check, Calc, Drill, Star, Verify}
 use Rattle.call_words.proofs.RightWords.{place-refused}

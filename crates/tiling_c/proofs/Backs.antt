@@ -1,5 +1,5 @@
 -- Which edge of one tile lies on an edge of another, from what a crossing says.
-use Rattle.std.proofs.Common.{◌≡◌, ◌⊎◌, ◌≤◌, ◌<◌, ℕ, Result, Ok, Err, IsOk, Bool, true, false, IsTrue, MatchBool, ◌↔◌, List, length, get_or, replicate, inl, inr, refl, sym, subst, arith}
+use Rattle.std.proofs.Common.{◌≡◌, ◌⊎◌, ◌≤◌, ◌<◌, ℕ, Result, Ok, Err, IsOk, IfOk, IfErr, Bool, true, false, IsTrue, MatchBool, ◌↔◌, List, length, get_or, replicate, inl, inr, refl, sym, subst, arith}
 use Rattle.std.specs.List.{HoldsAt, AllWithin}
 use Rattle.std.proofs.lemmas.Bool.{cases_lt}
 use Rattle.std.proofs.lemmas.List.{length-map, length-replicate, get_or-replicate, get_or_past}
@@ -12,6 +12,9 @@ use Rattle.rule_model.specs.Views.{rule_of}
 use Rattle.tile_place.specs.Crossed.{IsOnlyAcross, edges_of}
 use Rattle.tile_place.proofs.OneAcross.{one_across}
 use Rattle.tile_place.proofs.Plane.{OnlyTilesLaw, IsSettled, its_rule, fits_tables, has_edge}
+use Rattle.tile_shape.specs.Views.{address_of}
+use Rattle.transducer_core.specs.declared.crossing.Crossing.{Crossing}
+use Rattle.transducer_core.specs.declared.outside.Outside.{Outside}
 use Rattle.tiling_c.specs.Pairing.{no_back, ShowsBack, HasBack}
 
 -- across the edge is another tile than b
@@ -62,10 +65,19 @@ told m usable a b x e f back fits across leads (inl h) =
 told m usable a b x e f back fits across leads (inr h) =
     subst (ShowsBack (tiling_of m) a e b) (sym h.1) (another_across (tiling_of m) a b x e f across h.0)
 
--- a refusal isn't an answer
-pub not_ok : {A B : Type 0} (r : Result A B) (o : B) → r ≡ Err o → IsOk r → ⊥
-not_ok (Ok x) o e h = absurd (cc e)
-not_ok (Err y) o e h = absurd (cc h)
+-- what a crossing of the edge tells
+pub back_told : (m : Rule) → IsSettled m → OnlyTilesLaw m.order → (a b : Address) (e back : ℕ) (r : Result Crossing Outside)
+    → Fits (children (tiling_of m)) a → Fits (children (tiling_of m)) b → e < edges_of (tiling_of m) a.kind
+    → IfOk r (λ x. Fits (children (tiling_of m)) (address_of x.addr)) → IfOk r (λ x. IsOnlyAcross (tiling_of m) a e (address_of x.addr) x.edge)
+    → IfOk r (λ x. IsOnlyAcross (tiling_of m) (address_of x.addr) x.edge a e)
+    → ((x : Address) (f : ℕ) → Fits (children (tiling_of m)) x → Touches (contacts (tiling_of m)) a e x f → IsOk r)
+    → IfOk r (λ x. ((address_of x.addr ≡ b) × (back ≡ x.edge)) ⊎ ((¬ address_of x.addr ≡ b) × (back ≡ no_back)))
+    → IfErr r (λ _. back ≡ no_back) → ShowsBack (tiling_of m) a e b back
+back_told m settled law a b e back (Ok x) own other exists fits across leads when is none =
+    told m settled.usable a b (address_of x.addr) e x.edge back fits across leads is
+back_told m settled law a b e back (Err o) own other exists fits across leads when is none =
+    subst (ShowsBack (tiling_of m) a e b) (sym none)
+    (none_across m settled law a b e own other exists (λ x f fits touches. absurd (cc (when x f fits touches))))
 
 -- the number of edges is at most 12
 pub edges_few : (m : Rule) → IsUsable m → (x : Address) (edges : ℕ) → Fits (children (tiling_of m)) x

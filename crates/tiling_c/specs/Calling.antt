@@ -1,5 +1,6 @@
 -- The command as a call over bytes in memory: what it is asked, what it prints, and what it refuses.
-use Rattle.std.specs.Prelude.{◌≡◌, ◌⊎◌, ◌≤◌, ℕ, Bool, true, false, List, [], ◌∷◌, length}
+use Rattle.std.specs.Prelude.{◌≡◌, ◌↔◌, ◌⊎◌, ◌≤◌, ℕ, Bool, true, false, List, [], ◌∷◌, length}
+use Rattle.std.specs.Str.{IsUtf8}
 use Rattle.cyclo_points.specs.Text.{newline}
 use Rattle.layer_api.specs.declared.format.Format.{Format}
 use Rattle.layer_api.specs.declared.format.Format.TheVariants.{Svg, List as Listing, Census}
@@ -11,8 +12,7 @@ use Rattle.call_notes.specs.Status.{code_of, IsCutShort, IsLimit}
 use Rattle.tile_app.specs.Answer.{Prints, CanBeAnswered, IsBeyondLimits}
 use Rattle.tile_app.specs.Call.{Call, reads_file}
 use Rattle.tile_app.specs.Causes.{Causes, IsNoLimit}
-use Rattle.tiling_c.specs.declared.growing_sink.GrowingSink.{GrowingSink}
-use Rattle.c_values.specs.Statuses.{ok}
+use Rattle.c_values.specs.Statuses.{ok, not_text, no_memory}
 use Rattle.tiling_c.specs.Opening.{HoldsText}
 
 -- the arguments that a text has: those between its newlines
@@ -67,11 +67,6 @@ pub record TellsLimit (code : ℕ) (old new : List ℕ) (bytes : ℕ) : Type 0 w
   pub limit : IsLimit status
   pub told : TellsStatus status code old new bytes
 
--- a sink has taken nothing, and no write to it has failed
-pub record IsUnused (sink : GrowingSink) : Type 0 where
-  pub empty : sink.bytes.items ≡ []
-  pub no_faults : sink.faults ≡ 0
-
 -- how the call ends if memory doesn't run out, with the text that is printed and the line that is noted
 pub record IsEnding (c : Call) (text line : List ℕ) (status : Status) : Type 0 where
   pub whole : ¬ IsCutShort status
@@ -90,12 +85,20 @@ pub record EndsWith (c : Call) (text line : List ℕ) (code : ℕ) : Type 0 wher
   pub is_code : code ≡ code_of status
   pub answer : IsEnding c text line status
 
--- it ends so, and what is printed, or the line of a refusal, is in its array
-pub record EndsTold (c : Call) (code : ℕ) (out new_out : List ℕ) (out_bytes : ℕ) (note new_note : List ℕ)
-    (note_bytes : ℕ) : Type 0 where
-  pub status : Status
-  pub text : List ℕ
-  pub answer : IsEnding c text (note_of status) status
-  pub is_code : code ≡ code_of status
-  pub printed : code ≡ ok → HoldsText text out new_out × (out_bytes ≡ length text)
-  pub noted : ¬ code ≡ ok → HoldsText (note_of status) note new_note × (note_bytes ≡ length (note_of status))
+-- What a call shows of its words and its input: what the command prints, in one array, or the line of a
+-- refusal, in the other.
+pub record ShowsCall (words input : List ℕ) (out new_out : List ℕ) (out_bytes : ℕ) (note new_note : List ℕ)
+    (note_bytes status : ℕ) : Type 0 where
+  -- what the command prints, or the line of a refusal for its cause
+  pub printed : status ≡ ok → PrintsText (call_in words input) out new_out out_bytes
+  pub refused : ¬ status ≡ ok → ¬ status ≡ not_text → ¬ status ≡ no_memory
+      → RefusesCall (call_in words input) status note new_note note_bytes
+  pub no_text : (status ≡ not_text) ↔ (¬ IsUtf8 words)
+  -- If the call has an answer, it is printed; if a refusal has a cause, it comes; of several limits one
+  -- comes. Only running out of memory may replace them.
+  pub complete : IsUtf8 words → CanBeAnswered (call_in words input) → (status ≡ ok) ⊎ (status ≡ no_memory)
+  pub refused_when : (other : Status) → IsUtf8 words → Causes (call_in words input) other
+      → IsNoLimit (call_in words input) other
+      → TellsStatus other status note new_note note_bytes ⊎ (status ≡ no_memory)
+  pub beyond_limits : IsUtf8 words → IsBeyondLimits (call_in words input)
+      → TellsLimit status note new_note note_bytes ⊎ (status ≡ no_memory)

@@ -2,6 +2,7 @@ pub mod Arrays
 pub mod At
 pub mod Calling
 pub mod Cover
+pub mod Crossing
 pub mod FramedWindow
 pub mod Glue
 pub mod Locate
@@ -9,6 +10,8 @@ pub mod Machines
 pub mod Meeting
 pub mod Opening
 pub mod Pairing
+pub mod Placing
+pub mod ReadAddress
 pub mod Shapes
 pub mod Shown
 pub mod Star

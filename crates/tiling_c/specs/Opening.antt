@@ -1,5 +1,5 @@
 -- The machine of a rule file, or the line of the file's first fault.
-use Rattle.std.specs.Prelude.{◌≡◌, ◌<◌, ◌≤◌, ◌++◌, ℕ, List, length, take, drop, min, Some, Ok, Err}
+use Rattle.std.specs.Prelude.{◌≡◌, ◌⊎◌, ◌<◌, ◌≤◌, ◌++◌, ℕ, List, length, take, drop, min, Some, Ok, Err}
 use Rattle.rule_model.specs.Tiling.{Tiling}
 use Rattle.rule_text.specs.Limits.{longest_file}
 use Rattle.call_notes.specs.declared.status.Status.{Status}
@@ -7,6 +7,7 @@ use Rattle.call_notes.specs.declared.status.Status.TheVariants.{RuleTooLong, Rul
 use Rattle.call_notes.specs.Notes.{note_of}
 use Rattle.tile_app.specs.RuleFiles.{tiling_in_file}
 use Rattle.c_values.specs.declared.machine_slot.MachineSlot.{MachineSlot}
+use Rattle.c_values.specs.Statuses.{ok, rule_refused, no_memory}
 use Rattle.tiling_c.specs.Machines.{HasMachine}
 
 -- a text is at the front of an array of bytes, as far as there is room, and the bytes after it are as they
@@ -39,3 +40,11 @@ pub record RefusesFile (file old new : List ℕ) (bytes : ℕ) : Type 0 where
   pub line : HoldsText (note_of status) old new
   pub whole : bytes ≡ length (note_of status)
   pub short : bytes ≤ most_bytes
+
+-- what a call shows of a file: the machine of the accepted rule that it stands for, or the command's line of
+-- its first fault
+pub record ShowsOpenFile (file : List ℕ) (slot : MachineSlot) (line new_line : List ℕ)
+    (bytes status : ℕ) : Type 0 where
+  pub opened : status ≡ ok → OpensFile file slot
+  pub refused : status ≡ rule_refused → RefusesFile file line new_line bytes
+  pub statuses : (status ≡ ok) ⊎ (status ≡ rule_refused) ⊎ (status ≡ no_memory)

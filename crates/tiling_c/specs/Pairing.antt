@@ -1,10 +1,13 @@
 -- How one tile lies to another, as plain numbers.
-use Rattle.std.specs.Prelude.{◌≡◌, ◌≢◌, ◌↔◌, ◌<◌, ◌≤◌, ℕ, List, get_or}
+use Rattle.std.specs.Prelude.{◌≡◌, ◌≢◌, ◌↔◌, ◌⊎◌, ◌<◌, ◌≤◌, ℕ, List, get_or}
 use Rattle.theory_addresses.specs.Address.{Address}
 use Rattle.pair_machine.specs.Between.{HaveCommon}
 use Rattle.rule_model.specs.Tiling.{Tiling}
 use Rattle.tile_place.specs.Crossed.{IsOnlyAcross, edges_of}
+use Rattle.c_values.specs.declared.plain_address.PlainAddress.{PlainAddress}
 use Rattle.c_values.specs.declared.plain_relation.PlainRelation.{PlainRelation}
+use Rattle.c_values.specs.Addresses.{address_in, NamesTile}
+use Rattle.c_values.specs.Statuses.{ok, bad_address}
 
 -- the number that stands for no edge
 abbrev pub no_back : ℕ
@@ -39,3 +42,11 @@ pub record ShowsHow (a b : Address) (backs : List ℕ) (relation : ℕ) : Type 0
 pub record ShowsRelation (t : Tiling) (a b : Address) (p : PlainRelation) : Type 0 where
   pub backs : AreBacks t a b p.backs
   pub how : ShowsHow a b p.backs p.relation
+
+-- what a call shows of two addresses: how the tiles lie to each other, or that one of them names no tile
+pub record ShowsPair (t : Tiling) (a b : PlainAddress) (p : PlainRelation) (status : ℕ) : Type 0 where
+  -- in the plane, with both tiles placed in their common supertile: every edge of one that lies on an edge of
+  -- the other
+  pub relation : status ≡ ok → ShowsRelation t (address_in a) (address_in b) p
+  pub named : (status ≡ ok) ↔ (NamesTile t a × NamesTile t b)
+  pub statuses : (status ≡ ok) ⊎ (status ≡ bad_address)

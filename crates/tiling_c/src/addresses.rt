@@ -1,50 +1,31 @@
 //! Addresses and their texts.
-ghost use Rattle.std.specs.Prelude.{◌≡◌, ◌↔◌, ◌⊎◌, ◌<◌, ◌≤◌, ◌++◌, Ok, IsOk, length, take, drop};
-ghost use Rattle.rule_model.specs.Tiling.{tiling_of, children};
-ghost use Rattle.tile_shape.specs.AddressIn.{address_of_text as address_of_text};
+ghost use Rattle.std.specs.Prelude.{◌≡◌, ◌↔◌, ◌⊎◌, ◌<◌, ◌≤◌, ◌++◌, length, drop};
+ghost use Rattle.rule_model.specs.Tiling.{tiling_of};
 ghost use Rattle.tile_shape.specs.Limits.{longest_text};
 ghost use Rattle.tile_shape.specs.Text.{address_text};
 ghost use Rattle.c_values.specs.Addresses.{address_in, NamesTile};
 ghost use Rattle.c_values.specs.Statuses.{ok, bad_words, bad_address};
+ghost use Rattle.tiling_c.specs.ReadAddress.{ShowsAddressRead};
 
 use c_values::plain_address::PlainAddress;
 use c_values::shared_machine::SharedMachine;
 use c_values::status::{BAD_ADDRESS, BAD_WORDS, OK};
-use tile_place::machine::Machine;
 use tile_shape::reading::read_address;
 use tile_shape::writing::write_address;
 
-/// Like [`tiling_read_address`], for a machine.
-pub fn put_address(machine: &Machine, text: &[u8], out: &mut PlainAddress) -> u8
-    ensures read { result ≡ ok → address_of_text (children (tiling_of machine.now)) text.now ≡ Ok
-        (address_in out.new) }
-    ensures names { result ≡ ok → NamesTile (tiling_of machine.now) out.new }
-    ensures bad_address { (result ≡ bad_address)
-        ↔ (¬ IsOk (address_of_text (children (tiling_of machine.now)) text.now)) }
+/// Reads the text of an address. The address must be that of a tile of the rule.
+#[unsafe(no_mangle)]
+pub extern "C" fn tiling_read_address(t: SharedMachine, text: &[u8], out: &mut PlainAddress) -> u8
+    ensures shown { ShowsAddressRead (tiling_of t.rule) text.now out.new result }
     ensures unchanged { ¬ result ≡ ok → out.new ≡ out.old }
-    ensures statuses { (result ≡ ok) ⊎ (result ≡ bad_address) }
 {
-    match read_address(machine.checked().uses(), text) {
+    match read_address(t.get().checked().uses(), text) {
         Ok(addr) => {
             out.write(&addr);
             OK
         }
         Err(_) => BAD_ADDRESS,
     }
-}
-
-/// Reads the text of an address. The address must be that of a tile of the rule.
-#[unsafe(no_mangle)]
-pub extern "C" fn tiling_read_address(t: SharedMachine, text: &[u8], out: &mut PlainAddress) -> u8
-    ensures read { result ≡ ok → address_of_text (children (tiling_of t.rule)) text.now ≡ Ok
-        (address_in out.new) }
-    ensures names { result ≡ ok → NamesTile (tiling_of t.rule) out.new }
-    ensures bad_address { (result ≡ bad_address)
-        ↔ (¬ IsOk (address_of_text (children (tiling_of t.rule)) text.now)) }
-    ensures unchanged { ¬ result ≡ ok → out.new ≡ out.old }
-    ensures statuses { (result ≡ ok) ⊎ (result ≡ bad_address) }
-{
-    put_address(t.get(), text, out)
 }
 
 /// Writes the text of an address into the first bytes of `text`: at most 515, with no 0 after them.
@@ -76,23 +57,15 @@ pub extern "C" fn tiling_write_address(
     OK
 }
 
-/// Tests if numbers are the address of a tile of a machine's rule.
-pub fn fits(machine: &Machine, addr: &PlainAddress) -> u8
-    ensures named { (result ≡ ok) ↔ NamesTile (tiling_of machine.now) addr.now }
-    ensures statuses { (result ≡ ok) ⊎ (result ≡ bad_address) }
-{
-    if addr.names_tile(machine) {
-        OK
-    } else {
-        BAD_ADDRESS
-    }
-}
-
 /// Tests if numbers are the address of a tile of the rule.
 #[unsafe(no_mangle)]
 pub extern "C" fn tiling_fits(t: SharedMachine, addr: &PlainAddress) -> u8
     ensures named { (result ≡ ok) ↔ NamesTile (tiling_of t.rule) addr.now }
     ensures statuses { (result ≡ ok) ⊎ (result ≡ bad_address) }
 {
-    fits(t.get(), addr)
+    if addr.names_tile(t.get()) {
+        OK
+    } else {
+        BAD_ADDRESS
+    }
 }

@@ -1,14 +1,9 @@
 //! All that the command does, over bytes in memory.
-ghost use Rattle.std.specs.Prelude.{◌≡◌, ◌↔◌, ◌⊎◌, false, length, map, IfOk, IsTrue};
-ghost use Rattle.std.specs.Str.{IsUtf8};
+ghost use Rattle.std.specs.Prelude.{◌≡◌, ◌⊎◌, false, map, IfOk, IsTrue};
 ghost use Rattle.call_words.specs.Words.{texts};
-ghost use Rattle.call_notes.specs.declared.status.Status.{Status};
 ghost use Rattle.call_notes.specs.Status.{IsCutShort};
-ghost use Rattle.tile_app.specs.Answer.{CanBeAnswered, IsBeyondLimits};
-ghost use Rattle.tile_app.specs.Causes.{Causes, IsNoLimit};
 ghost use Rattle.c_values.specs.Statuses.{ok, not_text, no_memory};
-ghost use Rattle.tiling_c.specs.Opening.{HoldsText};
-ghost use Rattle.tiling_c.specs.Calling.{PrintsText, TellsStatus, RefusesCall, TellsLimit, IsUnused, EndsWith, EndsTold, all_formats, arguments_in, call_in};
+ghost use Rattle.tiling_c.specs.Calling.{EndsWith, ShowsCall, all_formats, arguments_in, call_in};
 
 use crate::growing_sink::GrowingSink;
 use crate::opening::put_text;
@@ -65,20 +60,20 @@ fn have_all_formats<D: Layer>(layers: &[D]) -> bool
         && layers[2].format() == Format::Census
 }
 
-/// Does what the command does with the arguments of a text, an input, and a layer of each format. The sinks
-/// take what it prints, and the line of a refusal. Returns the exit code, or Err if memory runs out. (The
-/// layers are made here, since no function may hand out a `dyn`. They are tested, so that the contract of
-/// `run` speaks of their formats; the test never fails.)
-fn answer(
-    alloc: Global,
-    text: &str,
-    input: &[u8],
-    sink: &mut GrowingSink,
-    notes: &mut GrowingSink,
-) -> Result<u8, AllocError>
-    requires sink { IsUnused sink.old }
-    requires notes { IsUnused notes.old }
-    ensures { IfOk result (EndsWith (call_in text.now input.now) sink.new.bytes.items notes.new.bytes.items) }
+/// How a call of the command ended: its exit code, what it printed, and the line that it noted.
+#[derive(Drop)]
+struct Ending {
+    code: u8,
+    printed: GrowingSink,
+    noted: GrowingSink,
+}
+
+/// Does what the command does with the arguments of a text and with an input. Err if memory runs out. (The
+/// layers, one of each format, are made here, since no function may hand out a `dyn`. They are tested, so that
+/// the contract of `run` speaks of their formats; the test never fails.)
+fn answer(alloc: Global, text: &str, input: &[u8]) -> Result<Ending, AllocError>
+    ensures { IfOk result (λ ending. EndsWith (call_in text.now input.now) ending.printed.bytes.items
+        ending.noted.bytes.items ending.code) }
 {
     let words = arguments(alloc, text)?;
     let mut source = source_of(alloc, input)?;
@@ -89,72 +84,17 @@ fn answer(
     if !have_all_formats(layers.as_slice()) {
         return Err(AllocError);
     }
-    let status = run(alloc, &words, &mut source, sink, notes, layers);
-    if is_cut_short(&status) || sink.has_failed() || notes.has_failed() {
+    let mut printed = GrowingSink::new(alloc);
+    let mut noted = GrowingSink::new(alloc);
+    let status = run(alloc, &words, &mut source, &mut printed, &mut noted, layers);
+    if is_cut_short(&status) || printed.has_failed() || noted.has_failed() {
         return Err(AllocError);
     }
-    Ok(status.code())
-}
-
-/// Puts the text of a call that succeeds, or the line of one that does not, into its array.
-fn put_ending(
-    code: u8,
-    text: &[u8],
-    line: &[u8],
-    out: &mut [u8],
-    out_bytes: &mut usize,
-    note: &mut [u8],
-    note_bytes: &mut usize,
-)
-    ensures text { code ≡ ok → HoldsText text.now out.old out.new × (out_bytes.new ≡ length text.now) }
-    ensures line { ¬ code ≡ ok → HoldsText line.now note.old note.new × (note_bytes.new ≡ length line.now) }
-    ensures out_unchanged { ¬ code ≡ ok → out.new ≡ out.old }
-    ensures out_bytes_unchanged { ¬ code ≡ ok → out_bytes.new ≡ out_bytes.old }
-    ensures note_unchanged { code ≡ ok → note.new ≡ note.old }
-    ensures note_bytes_unchanged { code ≡ ok → note_bytes.new ≡ note_bytes.old }
-{
-    if code == OK {
-        put_text(text, out, out_bytes);
-    } else {
-        put_text(line, note, note_bytes);
-    }
-}
-
-/// Like [`tiling_call`], for arguments that are UTF-8, with sinks that have taken nothing.
-fn tell(
-    alloc: Global,
-    text: &str,
-    input: &[u8],
-    sink: &mut GrowingSink,
-    notes: &mut GrowingSink,
-    out: &mut [u8],
-    out_bytes: &mut usize,
-    note: &mut [u8],
-    note_bytes: &mut usize,
-) -> u8
-    requires sink { IsUnused sink.old }
-    requires notes { IsUnused notes.old }
-    ensures told { (result ≡ no_memory) ⊎ EndsTold (call_in text.now input.now) result out.old out.new
-        out_bytes.new note.old note.new note_bytes.new }
-    ensures text { ¬ result ≡ not_text }
-    ensures out_unchanged { ¬ result ≡ ok → out.new ≡ out.old }
-    ensures out_bytes_unchanged { ¬ result ≡ ok → out_bytes.new ≡ out_bytes.old }
-    ensures note_unchanged { (result ≡ ok) ⊎ (result ≡ no_memory) → note.new ≡ note.old }
-    ensures note_bytes_unchanged { (result ≡ ok) ⊎ (result ≡ no_memory) → note_bytes.new ≡ note_bytes.old }
-{
-    let Ok(code) = answer(alloc, text, input, sink, notes) else {
-        return NO_MEMORY;
-    };
-    put_ending(
-        code,
-        sink.bytes(),
-        notes.bytes(),
-        out,
-        out_bytes,
-        note,
-        note_bytes,
-    );
-    code
+    Ok(Ending {
+        code: status.code(),
+        printed,
+        noted,
+    })
 }
 
 /// Does all that the command does. `words` are its arguments, with newlines between them, and `input` is what
@@ -170,38 +110,23 @@ pub extern "C" fn tiling_call(
     note: &mut [u8],
     note_bytes: &mut usize,
 ) -> u8
-    // What the command prints, or the line of a refusal for its cause.
-    ensures printed { result ≡ ok → PrintsText (call_in words.now input.now) out.old out.new out_bytes.new }
-    ensures refused { ¬ result ≡ ok → ¬ result ≡ not_text → ¬ result ≡ no_memory
-        → RefusesCall (call_in words.now input.now) result note.old note.new note_bytes.new }
-    ensures not_text { (result ≡ not_text) ↔ (¬ IsUtf8 words.now) }
-
-    // If the call has an answer, it is printed; if a refusal has a cause, it comes; of several limits one
-    // comes. Only running out of memory may replace them.
-    ensures complete { IsUtf8 words.now → CanBeAnswered (call_in words.now input.now)
-        → (result ≡ ok) ⊎ (result ≡ no_memory) }
-    ensures refused_when { (status : Status) → IsUtf8 words.now → Causes (call_in words.now input.now) status
-        → IsNoLimit (call_in words.now input.now) status
-        → TellsStatus status result note.old note.new note_bytes.new ⊎ (result ≡ no_memory) }
-    ensures beyond_limits { IsUtf8 words.now → IsBeyondLimits (call_in words.now input.now)
-        → TellsLimit result note.old note.new note_bytes.new ⊎ (result ≡ no_memory) }
-
-    // What stays as it was.
-    ensures out_unchanged { ¬ result ≡ ok → out.new ≡ out.old }
-    ensures out_bytes_unchanged { ¬ result ≡ ok → out_bytes.new ≡ out_bytes.old }
+    ensures shown { ShowsCall words.now input.now out.old out.new out_bytes.new note.old note.new
+        note_bytes.new result }
+    ensures out_unchanged { ¬ result ≡ ok → (out.new ≡ out.old) × (out_bytes.new ≡ out_bytes.old) }
     ensures note_unchanged { (result ≡ ok) ⊎ (result ≡ not_text) ⊎ (result ≡ no_memory)
-        → note.new ≡ note.old }
-    ensures note_bytes_unchanged { (result ≡ ok) ⊎ (result ≡ not_text) ⊎ (result ≡ no_memory)
-        → note_bytes.new ≡ note_bytes.old }
+        → (note.new ≡ note.old) × (note_bytes.new ≡ note_bytes.old) }
 {
-    match str::from_utf8(words) {
-        Ok(text) => {
-            let mut sink = GrowingSink::new(alloc);
-            let mut notes = GrowingSink::new(alloc);
-            tell(
-                alloc, text, input, &mut sink, &mut notes, out, out_bytes, note, note_bytes,
-            )
-        }
-        Err(_) => NOT_TEXT,
+    let text = match str::from_utf8(words) {
+        Ok(text) => text,
+        Err(_) => return NOT_TEXT,
+    };
+    let Ok(ending) = answer(alloc, text, input) else {
+        return NO_MEMORY;
+    };
+    if ending.code == OK {
+        put_text(ending.printed.bytes(), out, out_bytes);
+        return OK;
     }
+    put_text(ending.noted.bytes(), note, note_bytes);
+    ending.code
 }

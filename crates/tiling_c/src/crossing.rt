@@ -4,7 +4,7 @@ ghost use Rattle.rule_model.specs.Tiling.{tiling_of};
 ghost use Rattle.tile_place.specs.Crossed.{IsOnlyAcross, IsOutside, LiesAlongNone, edges_of};
 ghost use Rattle.c_values.specs.Addresses.{address_in, NamesTile};
 ghost use Rattle.c_values.specs.Statuses.{ok, bad_address, outside, no_edge};
-ghost use Rattle.tiling_c.specs.Arrays.{ShowsCrossing, ShowsCrossingInArray};
+ghost use Rattle.tiling_c.specs.Crossing.{ShowsCrossing, ShowsCrossingInArray};
 
 use c_values::plain_address::PlainAddress;
 use c_values::plain_crossing::PlainCrossing;
@@ -85,12 +85,10 @@ pub extern "C" fn tiling_neighbour(
     back: &mut u8,
     part: &mut u8,
 ) -> u8
-    // In the plane, with both tiles placed in their common supertile: the only tile across the edge, and the
-    // edge back. Each refusal comes only for its cause, and leaves the address unchanged.
-    ensures crossing { ShowsCrossing (tiling_of t.rule) addr.old edge addr.new
+    ensures shown { ShowsCrossing (tiling_of t.rule) addr.old edge addr.new
         (record { status = result; back = back.new; part = part.new }) }
-    ensures back_unchanged { ¬ result ≡ ok → ¬ result ≡ outside → back.new ≡ back.old }
-    ensures part_unchanged { ¬ result ≡ outside → part.new ≡ part.old }
+    ensures unchanged { (¬ result ≡ ok → ¬ result ≡ outside → back.new ≡ back.old)
+        × (¬ result ≡ outside → part.new ≡ part.old) }
 {
     let crossing = cross_edge(t.get(), addr, edge);
     match crossing.status {

@@ -1,9 +1,9 @@
 //! Machines by the names of built-in rules.
-ghost use Rattle.std.specs.Prelude.{◌≡◌, ◌↔◌, ◌⊎◌, None, Some, option_map};
+ghost use Rattle.std.specs.Prelude.{◌≡◌, Some, IfOk};
 ghost use Rattle.call_words.specs.Choices.{name_in};
 ghost use Rattle.tile_app.specs.Tilings.{builtin_tiling};
-ghost use Rattle.c_values.specs.Statuses.{ok, bad_words, no_memory};
-ghost use Rattle.tiling_c.specs.Machines.{HasMachine};
+ghost use Rattle.c_values.specs.Statuses.{ok};
+ghost use Rattle.tiling_c.specs.Machines.{HasMachine, ShowsOpen};
 
 use builtin_rules::builtin::builtin;
 use builtin_rules::name::Name;
@@ -13,6 +13,7 @@ use c_values::status::{BAD_WORDS, NO_MEMORY, OK};
 use rule_model::checked::Checked;
 use std::alloc::Global;
 use tile_place::machine::Machine;
+use tile_shape::no_memory::NoMemory;
 
 /// The number of the header that this library was made for.
 const ABI: u32 = 2;
@@ -25,22 +26,13 @@ pub extern "C" fn tiling_abi() -> u32
     ABI
 }
 
-/// Puts the handle of a checked rule's machine into a slot. The machine is never freed.
-pub fn put_machine(alloc: Global, checked: Checked, out: &mut MachineSlot) -> u8
-    ensures machine { result ≡ ok → out.new.rule ≡ Some checked }
-    ensures unchanged { ¬ result ≡ ok → out.new ≡ out.old }
-    ensures statuses { (result ≡ ok) ⊎ (result ≡ no_memory) }
+/// Makes the handle of a checked rule's machine, which is never freed. Err if memory runs out.
+pub(crate) fn slot_of(alloc: Global, checked: Checked) -> Result<MachineSlot, NoMemory>
+    ensures { IfOk result (λ slot. slot.rule ≡ Some checked) }
 {
-    let Ok(machine) = Machine::new(alloc, checked) else {
-        return NO_MEMORY;
-    };
-    match Box::new(alloc, machine) {
-        Ok(kept) => {
-            *out = MachineSlot::of(Box::leak(kept));
-            OK
-        }
-        Err(_) => NO_MEMORY,
-    }
+    let machine = Machine::new(alloc, checked)?;
+    let kept = Box::new(alloc, machine)?;
+    Ok(MachineSlot::of(Box::leak(kept)))
 }
 
 /// Returns the built-in rule that these bytes name.
@@ -62,19 +54,28 @@ fn name_in(name: &[u8]) -> Option<Name>
     }
 }
 
+/// Makes the handle of a built-in rule's machine. Err if memory runs out.
+fn opened(alloc: Global, name: Name) -> Result<MachineSlot, NoMemory>
+    ensures { IfOk result (λ slot. HasMachine slot (Some (builtin_tiling name))) }
+{
+    let checked = builtin(alloc, name)?;
+    slot_of(alloc, checked)
+}
+
 /// Makes the machine of a built-in rule, named "chair", "p2", "p3", "ab" or "halfhex".
 #[unsafe(no_mangle)]
 pub extern "C" fn tiling_open(alloc: Global, name: &[u8], out: &mut MachineSlot) -> u8
-    ensures named { result ≡ ok → HasMachine out.new (option_map builtin_tiling (name_in name.now)) }
-    ensures bad_words { (result ≡ bad_words) ↔ (name_in name.now ≡ None) }
+    ensures shown { ShowsOpen name.now out.new result }
     ensures unchanged { ¬ result ≡ ok → out.new ≡ out.old }
-    ensures statuses { (result ≡ ok) ⊎ (result ≡ bad_words) ⊎ (result ≡ no_memory) }
 {
     let Some(name) = name_in(name) else {
         return BAD_WORDS;
     };
-    match builtin(alloc, name) {
-        Ok(checked) => put_machine(alloc, checked, out),
+    match opened(alloc, name) {
+        Ok(slot) => {
+            *out = slot;
+            OK
+        }
         Err(_) => NO_MEMORY,
     }
 }

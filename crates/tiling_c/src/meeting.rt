@@ -1,11 +1,11 @@
 //! Which placed tiles meet a window.
-ghost use Rattle.std.specs.Prelude.{◌≡◌, ◌↔◌, ◌⊎◌, ◌<◌, ℕ, length, get_or, All, IsSome, IfSome, IsTrue};
+ghost use Rattle.std.specs.Prelude.{◌≡◌, ◌↔◌, ◌<◌, ℕ, length, get_or, All, IsSome, IfSome, IsTrue};
 ghost use Rattle.rule_model.specs.Tiling.{tiling_of};
 ghost use Rattle.window_cover.specs.Windows.{IsWindow, MeetsWindow};
-ghost use Rattle.c_values.specs.Statuses.{ok, bad_words};
+ghost use Rattle.c_values.specs.Statuses.{ok};
 ghost use Rattle.c_values.specs.Windows.{window_in};
 ghost use Rattle.tiling_c.specs.Arrays.{plain_tile_at};
-ghost use Rattle.tiling_c.specs.Meeting.{AsksWhichMeet, ShowsMeeting, tile_given};
+ghost use Rattle.tiling_c.specs.Meeting.{AsksWhichMeet, ShowsMeeting, ShowsWhichMeet, tile_given};
 ghost use Rattle.tiling_c.specs.Shapes.{IsPlainTile};
 
 use crate::rule_numbers::kinds_of;
@@ -96,13 +96,8 @@ pub extern "C" fn tiling_meets_all(
     window: &PlainWindow,
     flags: &mut [u8],
 ) -> u8
-    // In the plane: some point inside the window belongs to the tile, as for the tiles of a window.
-    ensures each { result ≡ ok → (i : ℕ) → i < length tiles.now → ShowsMeeting (tiling_of t.rule)
-        (window_in t.rule.order window.now) (plain_tile_at tiles.now i) (get_or flags.new i 0) }
-    ensures bad_words { (result ≡ bad_words)
-        ↔ (¬ AsksWhichMeet (tiling_of t.rule) window.now tiles.now flags.old) }
+    ensures shown { ShowsWhichMeet (tiling_of t.rule) window.now tiles.now flags.old flags.new result }
     ensures unchanged { ¬ result ≡ ok → flags.new ≡ flags.old }
-    ensures statuses { (result ≡ ok) ⊎ (result ≡ bad_words) }
 {
     let machine = t.get();
     match window_asked(machine, tiles, window, flags) {

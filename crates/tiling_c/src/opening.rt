@@ -1,5 +1,5 @@
 //! Machines of rule files.
-ghost use Rattle.std.specs.Prelude.{◌≡◌, ◌⊎◌, ◌≤◌, length, Ok, IfOk, IfErr};
+ghost use Rattle.std.specs.Prelude.{◌≡◌, ◌≤◌, length, Ok, IfOk, IfErr};
 ghost use Rattle.arrayvec.specs.ArrayString.{array_string_len};
 ghost use Rattle.rule_model.specs.Tiling.{tiling_of};
 ghost use Rattle.rule_text.specs.Limits.{longest_file};
@@ -7,13 +7,13 @@ ghost use Rattle.call_notes.specs.declared.status.Status.TheVariants.{RuleRefuse
 ghost use Rattle.call_notes.specs.Notes.{note_of};
 ghost use Rattle.tile_app.specs.Reading.{IsFileRefused};
 ghost use Rattle.tile_app.specs.RuleFiles.{tiling_in_file};
-ghost use Rattle.c_values.specs.Statuses.{ok, rule_refused, no_memory};
-ghost use Rattle.tiling_c.specs.Opening.{HoldsText, OpensFile, RefusesFile, most_bytes};
+ghost use Rattle.c_values.specs.Statuses.{ok, rule_refused};
+ghost use Rattle.tiling_c.specs.Opening.{HoldsText, OpensFile, ShowsOpenFile, most_bytes};
 
-use crate::machines::put_machine;
+use crate::machines::slot_of;
 use arrayvec::ArrayString;
 use c_values::machine_slot::MachineSlot;
-use c_values::status::{NO_MEMORY, RULE_REFUSED};
+use c_values::status::{NO_MEMORY, OK, RULE_REFUSED};
 use call_notes::rule_fault::RuleFault;
 use call_notes::rule_fault_words::put_rule_fault;
 use call_notes::status::Status;
@@ -30,6 +30,16 @@ fn rule_in(alloc: Global, file: &[u8]) -> Result<Checked, Status>
 {
     let rule = read_rule(alloc, file)?;
     Ok(check(alloc, rule)?)
+}
+
+/// Makes the handle of the machine of the rule that the bytes of a file stand for.
+fn opened(alloc: Global, file: &[u8]) -> Result<MachineSlot, Status>
+    requires at_most_a_mebibyte { length file.now ≤ longest_file }
+    ensures opened { IfOk result (OpensFile file.now) }
+    ensures refused { IfErr result (IsFileRefused file.now) }
+{
+    let checked = rule_in(alloc, file)?;
+    Ok(slot_of(alloc, checked)?)
 }
 
 /// Returns the line that the command writes for the fault of a rule file.
@@ -64,23 +74,19 @@ pub extern "C" fn tiling_open_file(
     line: &mut [u8],
     line_bytes: &mut usize,
 ) -> u8
-    // The machine of the accepted rule that the file stands for.
-    ensures opened { result ≡ ok → OpensFile file.now out.new }
-
-    // The file is too long, or stands for no accepted rule. The line is the command's line of its first
-    // fault, and is short.
-    ensures refused { result ≡ rule_refused → RefusesFile file.now line.old line.new line_bytes.new }
-    ensures unchanged { ¬ result ≡ ok → out.new ≡ out.old }
-    ensures line_unchanged { ¬ result ≡ rule_refused → line.new ≡ line.old }
-    ensures bytes_unchanged { ¬ result ≡ rule_refused → line_bytes.new ≡ line_bytes.old }
-    ensures statuses { (result ≡ ok) ⊎ (result ≡ rule_refused) ⊎ (result ≡ no_memory) }
+    ensures shown { ShowsOpenFile file.now out.new line.old line.new line_bytes.new result }
+    ensures unchanged { (¬ result ≡ ok → out.new ≡ out.old)
+        × (¬ result ≡ rule_refused → (line.new ≡ line.old) × (line_bytes.new ≡ line_bytes.old)) }
 {
     if file.len() > LONGEST_FILE {
         put_text(b"3 RuleTooLong\n".as_slice(), line, line_bytes);
         return RULE_REFUSED;
     }
-    match rule_in(alloc, file) {
-        Ok(checked) => put_machine(alloc, checked, out),
+    match opened(alloc, file) {
+        Ok(slot) => {
+            *out = slot;
+            OK
+        }
         Err(Status::RuleRefused { fault }) => {
             let told = fault_line(fault);
             put_text(told.as_str().as_bytes(), line, line_bytes);

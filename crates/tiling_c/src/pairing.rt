@@ -1,12 +1,12 @@
 //! How one tile lies to another.
-ghost use Rattle.std.specs.Prelude.{◌≡◌, ◌↔◌, ◌⊎◌, ◌<◌, ◌≤◌, IsTrue};
+ghost use Rattle.std.specs.Prelude.{◌≡◌, ◌↔◌, ◌⊎◌, ◌<◌, ◌≤◌, IsTrue, IsSome, IfSome, IfOk, IfErr};
 ghost use Rattle.theory_addresses.specs.Address.{Fits};
 ghost use Rattle.rule_model.specs.Tiling.{tiling_of, children};
 ghost use Rattle.tile_place.specs.Crossed.{edges_of};
 ghost use Rattle.tile_shape.specs.Views.{address_of};
 ghost use Rattle.c_values.specs.Addresses.{address_in, NamesTile};
-ghost use Rattle.c_values.specs.Statuses.{ok, bad_address};
-ghost use Rattle.tiling_c.specs.Pairing.{no_back, ShowsBack, AreBacks, HasBack, ShowsHow, ShowsRelation};
+ghost use Rattle.c_values.specs.Statuses.{ok};
+ghost use Rattle.tiling_c.specs.Pairing.{no_back, AreBacks, HasBack, ShowsHow, ShowsRelation, ShowsPair};
 
 use c_values::plain_address::PlainAddress;
 use c_values::plain_relation::{APART, BESIDE, NO_BACK, PlainRelation, SAME, STRANGERS};
@@ -20,35 +20,22 @@ use theory_dissection::laws::across_law;
 use tile_place::machine::Machine;
 use tile_shape::address::Address;
 use transducer_core::crossing::Crossing;
+use transducer_core::outside::Outside;
 
-/// Returns the edge of a crossing that leads back if the tile across is `other`, and otherwise 255.
-fn back_if(across: &Crossing, other: &Address) -> u8
-    ensures { ((address_of across.now.addr ≡ address_of other.now) × (result ≡ across.now.edge))
-        ⊎ ((¬ address_of across.now.addr ≡ address_of other.now) × (result ≡ no_back)) }
+/// Returns the edge of `other` that lies on the edge that was crossed, or 255 if the tile across is another.
+fn back_to(other: &Address, crossed: &Result<Crossing, Outside>) -> u8
+    ensures across { IfOk crossed.now (λ x. ((address_of x.addr ≡ address_of other.now) × (result ≡ x.edge))
+        ⊎ ((¬ address_of x.addr ≡ address_of other.now) × (result ≡ no_back))) }
+    ensures outside { IfErr crossed.now (λ _. result ≡ no_back) }
 {
-    if are_same(&across.addr, other) {
-        across.edge
-    } else {
-        NO_BACK
-    }
-}
-
-/// Returns the edge of `other` that lies on an edge of `one`, or 255.
-fn back_of<L: Ledger>(
-    machine: &Machine,
-    one: &Address,
-    edge: u8,
-    other: &Address,
-    steps: &mut Steps<L>,
-) -> u8
-    requires one_fits { Fits (children (tiling_of machine.now)) (address_of one.now) }
-    requires other_fits { Fits (children (tiling_of machine.now)) (address_of other.now) }
-    requires exists { edge < edges_of (tiling_of machine.now) one.now.kind }
-    ensures { ShowsBack (tiling_of machine.now) (address_of one.now) edge (address_of other.now) result }
-{
-    across_law(machine.checked().order());
-    match machine.cross(one, edge, steps) {
-        Ok(across) => back_if(&across, other),
+    match crossed {
+        Ok(across) => {
+            if are_same(&across.addr, other) {
+                across.edge
+            } else {
+                NO_BACK
+            }
+        }
         Err(_) => NO_BACK,
     }
 }
@@ -73,9 +60,11 @@ fn backs_of<L: Ledger>(
     requires other_fits { Fits (children (tiling_of machine.now)) (address_of other.now) }
     ensures { AreBacks (tiling_of machine.now) (address_of one.now) (address_of other.now) result }
 {
+    across_law(machine.checked().order());
     let mut backs = [NO_BACK; 12];
     for edge in 0..edges_of(machine, one) {
-        backs[edge as usize] = back_of(machine, one, edge, other, steps);
+        let crossed = machine.cross(one, edge, steps);
+        backs[edge as usize] = back_to(other, &crossed);
     }
     backs
 }
@@ -100,36 +89,30 @@ fn relation_of(one: &Address, other: &Address, backs: &[u8; 12]) -> u8
     if is_beside(backs) { BESIDE } else { APART }
 }
 
-/// Puts how one tile of a machine's rule lies to another, with look-ups counted on a ledger of this name,
-/// which nobody reads.
-pub fn pair<L: Ledger>(
+/// Returns how one tile lies to another, or None exactly if one of them is no tile of the rule. Counts the
+/// look-ups on a ledger of this name, which nobody reads.
+fn pair<L: Ledger>(
     machine: &Machine,
     a: &PlainAddress,
     b: &PlainAddress,
-    out: &mut PlainRelation,
     blank: Blank,
-) -> u8
-    requires name { blank.name ≡ L.name }
-    requires parts { blank.parts ≡ L.parts }
-    requires some { 0 < blank.parts }
-    ensures relation { result ≡ ok → ShowsRelation (tiling_of machine.now) (address_in a.now)
-        (address_in b.now) out.new }
-    ensures named { (result ≡ ok) ↔ (NamesTile (tiling_of machine.now) a.now
+) -> Option<PlainRelation>
+    requires blank { (blank.name ≡ L.name) × (blank.parts ≡ L.parts) × (0 < blank.parts) }
+    ensures relation { IfSome result (ShowsRelation (tiling_of machine.now) (address_in a.now)
+        (address_in b.now)) }
+    ensures named { IsSome result ↔ (NamesTile (tiling_of machine.now) a.now
         × NamesTile (tiling_of machine.now) b.now) }
-    ensures unchanged { ¬ result ≡ ok → out.new ≡ out.old }
-    ensures statuses { (result ≡ ok) ⊎ (result ≡ bad_address) }
 {
     let mut steps = Steps::<L>::new(blank);
     let Some(one) = a.tile(machine) else {
-        return BAD_ADDRESS;
+        return None;
     };
     let Some(other) = b.tile(machine) else {
-        return BAD_ADDRESS;
+        return None;
     };
     let backs = backs_of(machine, &one, &other, &mut steps);
     let relation = relation_of(&one, &other, &backs);
-    *out = PlainRelation { relation, backs };
-    OK
+    Some(PlainRelation { relation, backs })
 }
 
 /// Finds how one tile lies to another: they have no common supertile, are the same tile, share edges, or
@@ -141,14 +124,14 @@ pub extern "C" fn tiling_pair(
     b: &PlainAddress,
     out: &mut PlainRelation,
 ) -> u8
-    // In the plane, with both tiles placed in their common supertile: every edge of one that lies on an edge
-    // of the other.
-    ensures relation { result ≡ ok → ShowsRelation (tiling_of t.rule) (address_in a.now) (address_in b.now)
-        out.new }
-    ensures named { (result ≡ ok) ↔ (NamesTile (tiling_of t.rule) a.now
-        × NamesTile (tiling_of t.rule) b.now) }
+    ensures shown { ShowsPair (tiling_of t.rule) a.now b.now out.new result }
     ensures unchanged { ¬ result ≡ ok → out.new ≡ out.old }
-    ensures statuses { (result ≡ ok) ⊎ (result ≡ bad_address) }
 {
-    pair::<Brand>(t.get(), a, b, out, Blank::new(1))
+    match pair::<Brand>(t.get(), a, b, Blank::new(1)) {
+        Some(relation) => {
+            *out = relation;
+            OK
+        }
+        None => BAD_ADDRESS,
+    }
 }

@@ -1,41 +1,36 @@
 //! Where the tiles of an array lie in their supertiles.
-ghost use Rattle.std.specs.Prelude.{◌≡◌, ◌↔◌, ◌⊎◌, ◌<◌, ℕ, length};
+ghost use Rattle.std.specs.Prelude.{◌≡◌, ◌<◌, ℕ, length};
 ghost use Rattle.rule_model.specs.Tiling.{tiling_of};
-ghost use Rattle.c_values.specs.Statuses.{ok, bad_words};
-ghost use Rattle.tiling_c.specs.Arrays.{ShowsPlace, plain_address_at, plain_tile_at};
+ghost use Rattle.c_values.specs.Statuses.{ok};
+ghost use Rattle.tiling_c.specs.Arrays.{plain_address_at, plain_tile_at};
+ghost use Rattle.tiling_c.specs.Placing.{ShowsPlaceInArray, ShowsPlaces};
 
-use crate::placing::put_place;
+use crate::placing::place_of;
 use c_values::plain_address::PlainAddress;
 use c_values::plain_tile::PlainTile;
 use c_values::shared_machine::SharedMachine;
 use c_values::status::{BAD_WORDS, OK};
 use tile_place::machine::Machine;
 
-/// Puts where a tile lies, or why it has no place.
-fn show_place(machine: &Machine, addr: &PlainAddress, tile: &mut PlainTile)
-    ensures { ShowsPlace (tiling_of machine.now) addr.now tile.new }
+/// Returns where a tile lies, or why it has no place.
+fn tile_placed(machine: &Machine, addr: &PlainAddress) -> PlainTile
+    ensures { ShowsPlaceInArray (tiling_of machine.now) addr.now result }
 {
-    let status = put_place(machine, addr, tile);
-    if status != OK {
-        *tile = PlainTile::refused(status);
+    match place_of(machine, addr) {
+        Ok(motion) => PlainTile::placed(addr.kind, &motion, 0),
+        Err(status) => PlainTile::refused(status),
     }
 }
 
 /// Puts where each tile lies.
-pub fn put_places(machine: &Machine, addrs: &[PlainAddress], tiles: &mut [PlainTile]) -> u8
-    ensures each { result ≡ ok → (i : ℕ) → i < length addrs.now
-        → ShowsPlace (tiling_of machine.now) (plain_address_at addrs.now i) (plain_tile_at tiles.new i) }
-    ensures bad_words { (result ≡ bad_words) ↔ (¬ length addrs.now ≡ length tiles.old) }
-    ensures unchanged { ¬ result ≡ ok → tiles.new ≡ tiles.old }
-    ensures statuses { (result ≡ ok) ⊎ (result ≡ bad_words) }
+fn put_places(machine: &Machine, addrs: &[PlainAddress], tiles: &mut [PlainTile])
+    requires same_length { length addrs.now ≡ length tiles.old }
+    ensures { (i : ℕ) → i < length addrs.now → ShowsPlaceInArray (tiling_of machine.now)
+        (plain_address_at addrs.now i) (plain_tile_at tiles.new i) }
 {
-    if addrs.len() != tiles.len() {
-        return BAD_WORDS;
-    }
     for i in 0..addrs.len() {
-        show_place(machine, &addrs[i], &mut tiles[i]);
+        tiles[i] = tile_placed(machine, &addrs[i]);
     }
-    OK
 }
 
 /// Computes where each tile of an array lies. Each tile of the answer has a status of its own. If that isn't
@@ -46,11 +41,12 @@ pub extern "C" fn tiling_place_all(
     addrs: &[PlainAddress],
     tiles: &mut [PlainTile],
 ) -> u8
-    ensures each { result ≡ ok → (i : ℕ) → i < length addrs.now
-        → ShowsPlace (tiling_of t.rule) (plain_address_at addrs.now i) (plain_tile_at tiles.new i) }
-    ensures bad_words { (result ≡ bad_words) ↔ (¬ length addrs.now ≡ length tiles.old) }
+    ensures shown { ShowsPlaces (tiling_of t.rule) addrs.now tiles.old tiles.new result }
     ensures unchanged { ¬ result ≡ ok → tiles.new ≡ tiles.old }
-    ensures statuses { (result ≡ ok) ⊎ (result ≡ bad_words) }
 {
-    put_places(t.get(), addrs, tiles)
+    if addrs.len() != tiles.len() {
+        return BAD_WORDS;
+    }
+    put_places(t.get(), addrs, tiles);
+    OK
 }

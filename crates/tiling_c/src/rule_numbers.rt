@@ -9,13 +9,6 @@ use c_values::plain_rule_numbers::PlainRuleNumbers;
 use c_values::shared_machine::SharedMachine;
 use tile_place::machine::Machine;
 
-/// Returns the order of a machine's rule.
-fn order_of(machine: &Machine) -> u8
-    ensures { result ≡ (points_of machine.now.order).order }
-{
-    machine.checked().order().n()
-}
-
 /// Returns the number of kinds of a machine's rule.
 pub(crate) fn kinds_of(machine: &Machine) -> u8
     ensures { result ≡ length (rule_of machine.now).kinds }
@@ -29,7 +22,7 @@ pub(crate) fn kinds_of(machine: &Machine) -> u8
 pub extern "C" fn tiling_order(t: SharedMachine) -> u8
     ensures { result ≡ (points_of t.rule.order).order }
 {
-    order_of(t.get())
+    t.get().checked().order().n()
 }
 
 /// Returns the number of kinds of the rule. They are numbered from 0.

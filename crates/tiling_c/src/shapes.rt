@@ -1,14 +1,12 @@
 //! The shapes of a rule: its prototiles by edges and corners, the edges along which halves are glued, and the
 //! corners of tiles.
-ghost use Rattle.std.specs.Prelude.{◌≡◌, ◌↔◌, ◌⊎◌, ◌<◌, ◌≤◌, ℕ, length};
-ghost use Rattle.rule_model.specs.Glue.{IsGlueEdge, IsOnlyGlueEdge};
+ghost use Rattle.std.specs.Prelude.{◌≡◌, ◌≤◌, length};
 ghost use Rattle.rule_model.specs.Tiling.{tiling_of};
-ghost use Rattle.rule_model.specs.Views.{as_rule, rule_of};
+ghost use Rattle.rule_model.specs.Views.{as_rule};
 ghost use Rattle.theory_substitution.specs.RuleParts.{vertices_of};
 ghost use Rattle.tile_place.specs.Crossed.{edges_of};
-ghost use Rattle.c_values.specs.Outlines.{HoldsOutline};
-ghost use Rattle.c_values.specs.Statuses.{ok, bad_words, no_edge};
-ghost use Rattle.tiling_c.specs.Shapes.{HasKind, IsPlainTile, ShowsCorners};
+ghost use Rattle.c_values.specs.Statuses.{ok};
+ghost use Rattle.tiling_c.specs.Shapes.{HasKind, ShowsEdges, ShowsPrototile, ShowsGlueEdge, ShowsCorners};
 
 use crate::rule_numbers::kinds_of;
 use arrayvec::ArrayVec;
@@ -29,13 +27,13 @@ fn prototile(machine: &Machine, kind: u8) -> &[Point]
     machine.checked().vertices(kind)
 }
 
-/// Puts how many edges a kind of a machine's rule has.
-pub fn put_edges(machine: &Machine, kind: u8, count: &mut u8) -> u8
-    ensures count { result ≡ ok → count.new ≡ edges_of (tiling_of machine.now) kind }
-    ensures bad_words { (result ≡ bad_words) ↔ (¬ HasKind (tiling_of machine.now) kind) }
+/// Returns the number of edges of a kind, which is also its number of corners.
+#[unsafe(no_mangle)]
+pub extern "C" fn tiling_edges(t: SharedMachine, kind: u8, count: &mut u8) -> u8
+    ensures shown { ShowsEdges (tiling_of t.rule) kind count.new result }
     ensures unchanged { ¬ result ≡ ok → count.new ≡ count.old }
-    ensures statuses { (result ≡ ok) ⊎ (result ≡ bad_words) }
 {
+    let machine = t.get();
     if kind >= kinds_of(machine) {
         return BAD_WORDS;
     }
@@ -44,25 +42,13 @@ pub fn put_edges(machine: &Machine, kind: u8, count: &mut u8) -> u8
     OK
 }
 
-/// Returns the number of edges of a kind, which is also its number of corners.
+/// Returns the corners of a kind's prototile, in the order of the rule.
 #[unsafe(no_mangle)]
-pub extern "C" fn tiling_edges(t: SharedMachine, kind: u8, count: &mut u8) -> u8
-    ensures count { result ≡ ok → count.new ≡ edges_of (tiling_of t.rule) kind }
-    ensures bad_words { (result ≡ bad_words) ↔ (¬ HasKind (tiling_of t.rule) kind) }
-    ensures unchanged { ¬ result ≡ ok → count.new ≡ count.old }
-    ensures statuses { (result ≡ ok) ⊎ (result ≡ bad_words) }
-{
-    put_edges(t.get(), kind, count)
-}
-
-/// Puts the corners of a kind of a machine's rule.
-pub fn put_prototile(machine: &Machine, kind: u8, out: &mut PlainOutline) -> u8
-    ensures corners { result ≡ ok
-        → HoldsOutline (vertices_of (as_rule machine.now) kind) out.old out.new }
-    ensures bad_words { (result ≡ bad_words) ↔ (¬ HasKind (tiling_of machine.now) kind) }
+pub extern "C" fn tiling_prototile(t: SharedMachine, kind: u8, out: &mut PlainOutline) -> u8
+    ensures shown { ShowsPrototile t.rule kind out.old out.new result }
     ensures unchanged { ¬ result ≡ ok → out.new ≡ out.old }
-    ensures statuses { (result ≡ ok) ⊎ (result ≡ bad_words) }
 {
+    let machine = t.get();
     if kind >= kinds_of(machine) {
         return BAD_WORDS;
     }
@@ -70,26 +56,13 @@ pub fn put_prototile(machine: &Machine, kind: u8, out: &mut PlainOutline) -> u8
     OK
 }
 
-/// Returns the corners of a kind's prototile, in the order of the rule.
+/// Returns the edge along which a kind, half of a whole tile, is glued to the other half.
 #[unsafe(no_mangle)]
-pub extern "C" fn tiling_prototile(t: SharedMachine, kind: u8, out: &mut PlainOutline) -> u8
-    ensures corners { result ≡ ok → HoldsOutline (vertices_of (as_rule t.rule) kind) out.old out.new }
-    ensures bad_words { (result ≡ bad_words) ↔ (¬ HasKind (tiling_of t.rule) kind) }
-    ensures unchanged { ¬ result ≡ ok → out.new ≡ out.old }
-    ensures statuses { (result ≡ ok) ⊎ (result ≡ bad_words) }
-{
-    put_prototile(t.get(), kind, out)
-}
-
-/// Puts the edge along which a kind of a machine's rule is glued to another half.
-pub fn put_glue_edge(machine: &Machine, kind: u8, edge: &mut u8) -> u8
-    ensures only { result ≡ ok → IsOnlyGlueEdge (rule_of machine.now) kind edge.new }
-    ensures no_edge { (result ≡ no_edge) ↔ (HasKind (tiling_of machine.now) kind
-        × ((e : ℕ) → ¬ IsGlueEdge (rule_of machine.now) kind e)) }
-    ensures bad_words { (result ≡ bad_words) ↔ (¬ HasKind (tiling_of machine.now) kind) }
+pub extern "C" fn tiling_glue_edge(t: SharedMachine, kind: u8, edge: &mut u8) -> u8
+    ensures shown { ShowsGlueEdge (tiling_of t.rule) kind edge.new result }
     ensures unchanged { ¬ result ≡ ok → edge.new ≡ edge.old }
-    ensures statuses { (result ≡ ok) ⊎ (result ≡ bad_words) ⊎ (result ≡ no_edge) }
 {
+    let machine = t.get();
     if kind >= kinds_of(machine) {
         return BAD_WORDS;
     }
@@ -102,26 +75,13 @@ pub fn put_glue_edge(machine: &Machine, kind: u8, edge: &mut u8) -> u8
     }
 }
 
-/// Returns the edge along which a kind, half of a whole tile, is glued to the other half.
+/// Returns the corners of a tile at its place, counterclockwise.
 #[unsafe(no_mangle)]
-pub extern "C" fn tiling_glue_edge(t: SharedMachine, kind: u8, edge: &mut u8) -> u8
-    ensures only { result ≡ ok → IsOnlyGlueEdge (rule_of t.rule) kind edge.new }
-    ensures no_edge { (result ≡ no_edge) ↔ (HasKind (tiling_of t.rule) kind
-        × ((e : ℕ) → ¬ IsGlueEdge (rule_of t.rule) kind e)) }
-    ensures bad_words { (result ≡ bad_words) ↔ (¬ HasKind (tiling_of t.rule) kind) }
-    ensures unchanged { ¬ result ≡ ok → edge.new ≡ edge.old }
-    ensures statuses { (result ≡ ok) ⊎ (result ≡ bad_words) ⊎ (result ≡ no_edge) }
-{
-    put_glue_edge(t.get(), kind, edge)
-}
-
-/// Puts the corners of a tile of a machine's rule.
-pub fn put_corners(machine: &Machine, tile: &PlainTile, out: &mut PlainOutline) -> u8
-    ensures corners { result ≡ ok → ShowsCorners (tiling_of machine.now) tile.now out.old out.new }
-    ensures bad_words { (result ≡ bad_words) ↔ (¬ IsPlainTile (tiling_of machine.now) tile.now) }
+pub extern "C" fn tiling_corners(t: SharedMachine, tile: &PlainTile, out: &mut PlainOutline) -> u8
+    ensures shown { ShowsCorners (tiling_of t.rule) tile.now out.old out.new result }
     ensures unchanged { ¬ result ≡ ok → out.new ≡ out.old }
-    ensures statuses { (result ≡ ok) ⊎ (result ≡ bad_words) }
 {
+    let machine = t.get();
     if tile.kind >= kinds_of(machine) {
         return BAD_WORDS;
     }
@@ -132,16 +92,4 @@ pub fn put_corners(machine: &Machine, tile: &PlainTile, out: &mut PlainOutline) 
     machine.put_corners(tile.kind, &motion, &mut corners);
     out.write(corners.as_slice());
     OK
-}
-
-/// Returns the corners of a tile at its place, counterclockwise.
-#[unsafe(no_mangle)]
-pub extern "C" fn tiling_corners(t: SharedMachine, tile: &PlainTile, out: &mut PlainOutline) -> u8
-    // Each corner is the vertex with the same number of the prototile, moved by the tile's motion.
-    ensures corners { result ≡ ok → ShowsCorners (tiling_of t.rule) tile.now out.old out.new }
-    ensures bad_words { (result ≡ bad_words) ↔ (¬ IsPlainTile (tiling_of t.rule) tile.now) }
-    ensures unchanged { ¬ result ≡ ok → out.new ≡ out.old }
-    ensures statuses { (result ≡ ok) ⊎ (result ≡ bad_words) }
-{
-    put_corners(t.get(), tile, out)
 }

@@ -23,6 +23,8 @@ mod FoundBelow
 mod Descended
 mod Shuffled
 mod Sorted
+mod Holes
+mod Sinking
 mod WordOrder
 mod Words
 mod Finished

@@ -35,6 +35,7 @@ mod new_edges;
 mod numbered;
 pub mod open_edge;
 mod order;
+mod passes;
 mod reach;
 mod run;
 mod run_tile;

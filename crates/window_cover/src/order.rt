@@ -9,6 +9,7 @@ ghost use Rattle.window_cover.specs.Runs.{AreRuns, seen};
 ghost use Rattle.window_cover.specs.Words.{HoldAll, words_from, tile_number};
 
 use crate::fields::Fields;
+use crate::passes::sort_words;
 use crate::runs::Runs;
 use std::alloc::Global;
 use tile_place::order_key::OrderKey;
@@ -36,7 +37,7 @@ impl Runs {
         ensures ordered { IfOk result (λ words. AreOrdered (seen self.now) (map tile_number words.items)) }
     {
         let mut words = self.words(alloc, fields)?;
-        words.sort_unstable();
+        sort_words(alloc, words.as_mut_slice());
         Ok(words)
     }
 

@@ -1,6 +1,7 @@
 -- The edges of a polygon tested one after another, and the answer of the box test by its definition.
 use Rattle.std.proofs.Common.{◌≡◌, ◌↔◌, ◌<◌, ◌≤◌, ℕ, zero, suc, ◌+◌, List, [], ◌∷◌, drop, length, get_or, Bool, true, false, ◌||◌, IsTrue, refl, sym}
-use Rattle.std.proofs.Common.{ap, ◌∙◌, arith}
+use Rattle.std.proofs.Common.{ap, ◌∙◌, subst, arith}
+use Rattle.std.proofs.lemmas.List.{get_or-map, length-map}
 use Rattle.std.specs.List.{list_any}
 use Rattle.theory_ring.specs.Divisor.{DividesWhole}
 use Rattle.theory_plane.specs.Box.{EdgeMeetsBox}
@@ -66,15 +67,22 @@ module _ (o : Order) (w : Window) where
   abbrev meets : PlaneEdge (reals_of o) → Bool
   meets e = box_test (reals_of o) e.from e.to (window_box o w)
 
-  from-vertex : (first : PlanePointOf o) (p : Point) (ps : List Point) (i : ℕ) (d : Point) → i < length (p ∷ ps)
-      → IsWellInside o w (get_or (p ∷ ps) i d)
-      → list_any meets (edges_from first (spot_of o p) (spots_of o ps)) ≡ true
-  from-vertex first p [] zero d h is = ap (λ b. b || false) (is first)
-  from-vertex first p [] (suc i) d h is = absurd (omega arith)
-  from-vertex first p (q ∷ ps) zero d h is = ap (λ b. b || list_any meets (edges_from first (spot_of o q) (spots_of o ps))) (is (spot_of o q))
-  from-vertex first p (q ∷ ps) (suc i) d h is = or_true _ _ (from-vertex first q ps i d (omega arith) is)
+  from-corner : (first p : PlanePointOf o) (ps : List (PlanePointOf o)) (i : ℕ) (d : PlanePointOf o) → i < length (p ∷ ps)
+      → ((q : PlanePointOf o) → box_test (reals_of o) (get_or (p ∷ ps) i d) q (window_box o w) ≡ true)
+      → list_any meets (edges_from first p ps) ≡ true
+  from-corner first p [] zero d h is = ap (λ b. b || false) (is first)
+  from-corner first p [] (suc i) d h is = absurd (omega arith)
+  from-corner first p (q ∷ ps) zero d h is = ap (λ b. b || list_any meets (edges_from first q ps)) (is q)
+  from-corner first p (q ∷ ps) (suc i) d h is = or_true _ _ (from-corner first q ps i d (omega arith) is)
+
+  pub corner-meets : (ps : List (PlanePointOf o)) (i : ℕ) (d : PlanePointOf o) → i < length ps
+      → ((q : PlanePointOf o) → box_test (reals_of o) (get_or ps i d) q (window_box o w) ≡ true)
+      → list_any meets (edges ps) ≡ true
+  corner-meets [] i d h is = absurd (omega arith)
+  corner-meets (p ∷ ps) i d h is = from-corner p p ps i d h is
 
   pub vertex-meets : (ps : List Point) (i : ℕ) (d : Point) → i < length ps → IsWellInside o w (get_or ps i d) → list_any meets (edges (spots_of o ps))
       ≡ true
-  vertex-meets [] i d h is = absurd (omega arith)
-  vertex-meets (p ∷ ps) i d h is = from-vertex (spot_of o p) p ps i d h is
+  vertex-meets ps i d h is = corner-meets (spots_of o ps) i (spot_of o d) (rw (length-map ps (spot_of o)) h)
+      (subst (λ (v : PlanePointOf o). (q : PlanePointOf o) → box_test (reals_of o) v q (window_box o w) ≡ true)
+      (sym (get_or-map (spot_of o) ps i d (spot_of o d) h)) is)

@@ -1,5 +1,5 @@
 //! How a part of a supertile lies relative to a window.
-ghost use Rattle.std.specs.Prelude.{◌≡◌, ◌<◌, ◌^◌, IfSome};
+ghost use Rattle.std.specs.Prelude.{◌≡◌, ◌<◌, ◌^◌, IfSome, IsTrue};
 ghost use Rattle.cyclo_points.specs.Point.{point_in, IsWithin};
 ghost use Rattle.theory_walks.specs.Ancestors.{factor_power};
 ghost use Rattle.rule_model.specs.Tiling.{tiling_of};
@@ -9,6 +9,7 @@ ghost use Rattle.window_descent.specs.declared.standing.Standing.TheVariants as 
 ghost use Rattle.window_descent.specs.Reach.{IsInReach, HasArea};
 
 use crate::bounds::Bounds;
+use crate::inside::is_inside;
 use crate::meeting::meets;
 use crate::part::Part;
 use crate::row_key::RowKey;
@@ -42,7 +43,7 @@ pub fn place_of(
 {
     match by_bounds(machine, window, rows, level, part) {
         Some(standing) => Some(standing),
-        None => by_outline(machine, window, level, &rows.scale(machine, level), part),
+        None => by_vertices(machine, window, level, &rows.scale(machine, level), part),
     }
 }
 
@@ -84,7 +85,45 @@ fn unless_open(standing: Standing, level: u8) -> Option<Standing>
     }
 }
 
-/// Finds how a part lies relative to a window by its vertices, or None if one of them is refused.
+/// Finds how a part lies relative to a window by its vertices, or None if one of them is refused. Most tiles
+/// that meet a window have a corner in it, so this is tested first.
+fn by_vertices(
+    machine: &Machine,
+    window: &Window,
+    level: u8,
+    scale: &Point,
+    part: &Part,
+) -> Option<Standing>
+    requires part { IsPlacedPart machine.now part.now }
+    requires scale_within { IsWithin (2 ^ 24) scale.now }
+    requires scale_is { point_in machine.now.order scale.now ≡ factor_power (tiling_of machine.now) level }
+    requires window { HasArea window.now }
+    ensures placed { IfSome result (IsPlacedBy (tiling_of machine.now) window.now level part.now) }
+{
+    if level == 0 && has_corner_inside(machine, window, part) {
+        return Some(Standing::Within);
+    }
+    by_outline(machine, window, level, scale, part)
+}
+
+/// Returns true only if a corner of a tile lies well inside a window. Then the tile meets the window.
+fn has_corner_inside(machine: &Machine, window: &Window, part: &Part) -> bool
+    requires part { IsPlacedPart machine.now part.now }
+    requires window { HasArea window.now }
+    ensures { IsTrue result → IsPlacedBy (tiling_of machine.now) window.now 0 part.now Standing.Within }
+{
+    let checked = machine.checked();
+    let order = checked.order();
+    for number in 0..checked.vertices(part.kind).len() {
+        let corner = machine.corner(part.kind, &part.motion, number);
+        if is_inside(order, window, &corner) {
+            return true;
+        }
+    }
+    false
+}
+
+/// Finds how a part lies relative to a window by its outline, or None if one of its vertices is refused.
 fn by_outline(
     machine: &Machine,
     window: &Window,

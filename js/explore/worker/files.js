@@ -31,8 +31,11 @@ function styleOf(look, classes, scale) {
   const fills = used.map((number) => `.c${number}{fill:${look.colours[number % look.colours.length]}}`);
   const line = look.lines ? `stroke:${look.line};stroke-width:${short(1.1 / scale)};stroke-linejoin:round`
       : "stroke:none";
-  const supertile = `fill:none;stroke:#10181d;stroke-width:${short(3 / scale)};stroke-linejoin:round`;
-  return `<style type="text/css">.tile{${line}}\n${fills.join("\n")}\n.supertile{${supertile}}</style>`;
+  const round = "fill:none;stroke-linejoin:round;stroke-linecap:round";
+  const around = `${round};stroke:#ffffff;stroke-opacity:.82;stroke-width:${short(6 / scale)}`;
+  const supertile = `${round};stroke:#10181d;stroke-width:${short(3 / scale)}`;
+  return `<style type="text/css">.tile{${line}}\n${fills.join("\n")}\n.around{${around}}
+.supertile{${supertile}}</style>`;
 }
 
 function svgTile(patch, tile, number, x0, y0) {
@@ -44,11 +47,15 @@ function svgTile(patch, tile, number, x0, y0) {
   return `<polygon ${name} ${look} points="${points}"><title>${patch.address(tile)}</title></polygon>`;
 }
 
+/** The outlines of supertiles, above a lighter and wider line along all of them. */
 function svgSupertiles(drawable, look, { at, x, y, width, height }) {
   const frame = { ...look, at, base: drawable.deepBase(look) };
   const lines = supertileLines(drawable, look, drawable.window(frame, x, y, width, height), at);
-  const points = (line) => line.map(([a, b]) => `${short(a)},${short(-b)}`).join(" ");
-  return lines.map((line) => `<polyline class="supertile" points="${points(line)}"/>`);
+  const points = lines.map((line) => line.map(([a, b]) => `${short(a)},${short(-b)}`).join(" "));
+  return [
+    `<path class="around" d="${points.map((it) => `M${it}`).join("")}"/>`,
+    ...points.map((it) => `<polyline class="supertile" points="${it}"/>`),
+  ];
 }
 
 /** The view as a PNG file. */
@@ -61,10 +68,11 @@ export function pngOf(drawable, look, part) {
  * makes with --tiles. */
 export function boardOf(drawable, look, { at, x, y, tiles }) {
   const near = drawable.tiling.pointNear(x, y), point = at.map((value, i) => value + near[i]);
+  const { seed, base } = look;
   const [px, py] = drawable.place(point);
   for (let half = firstHalf(drawable, tiles); ;
       half = half.map((side) => Math.min(4096, Math.floor((side * 3) / 2) + 1))) {
-    const patch = drawable.patchOf(drawable.tiling.window({ ...look, at: point, half }), look.isWhole);
+    const patch = drawable.patchOf(drawable.tiling.window({ seed, base, at: point, half }), look.isWhole);
     if (patch.length >= 2 * tiles + 8) return inLines(patch.connected(tiles, px, py).toJSON());
   }
 }

@@ -25,13 +25,14 @@ export const polygonOf = (patch, tile, x0, y0) => patch.polygon(tile).map(([x, y
 const middleOf = (polygon) =>
     [0, 1].map((i) => polygon.reduce((sum, place) => sum + place[i], 0) / polygon.length);
 
-/** For each edge the tile across it: its address and its middle. */
+/** For each edge the tile across it: its address, outline and middle. */
 function edgesOf(patch, tile, x0, y0) {
   const { most } = patch, near = patch.neighbours();
   return Array.from({ length: patch.counts[tile] }, (_, edge) => {
     const other = near[tile * most + edge];
     if (other < 0) return null;
-    return { name: patch.address(other), middle: middleOf(polygonOf(patch, other, x0, y0)) };
+    const outline = polygonOf(patch, other, x0, y0);
+    return { name: patch.address(other), outline, middle: middleOf(outline) };
   });
 }
 

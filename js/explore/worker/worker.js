@@ -103,9 +103,9 @@ const questions = {
 
   /** The first of some points around which the tiling has an answer, or null. */
   async firstOf({ look, points }) {
-    const { tiling } = await drawableOf(look.tiling);
+    const { tiling } = await drawableOf(look.tiling), { seed, base } = look;
     return points.find((at) => isAnswered(
-        () => tiling.window({ ...look, at, half: [2, 2], addresses: false }))) ?? null;
+        () => tiling.window({ seed, base, at, half: [2, 2], addresses: false }))) ?? null;
   },
 };
 

@@ -62,28 +62,33 @@ run-requires g c = record {
       c.args.script.now + 1) c.in-Some.is c.loop-left.invariant.few in
       let short = c.requires.short in
       omega (arith, few, short);
-  all_fit = c.loop-left.invariant.all_fit;
-  compiled = c.loop-left.invariant.compiled;
+  ready = record { all_fit = c.loop-left.invariant.all_fit; compiled = c.loop-left.invariant.compiled };
 }
 
-pub returns-in_err-run-clause-fault : goal.returns-in_err-run-clause-fault
-returns-in_err-run-clause-fault g c =
+pub returns-in_err-run : goal.returns-in_err-run
+returns-in_err-run g c =
     let p = err_from_is_err_and c.from_residual-in_err-run.result c.from_residual-in_err-run.ensures.1 in
-    rw (p.1, p.2) (comes_fault (tiling_of c.args.machine.now) (texts_between newline c.args.script.now)
-    c.loop-left.calculation c.loop-left.calculation c.cut.result.0.now
-    (parts_behind newline (option_map (λ text. text.now) c.cut.result.1))
-    (here g (goal.at.returns-in_err-run-clause-fault g c).After-cut) c.in_err-run.field-0.0 c.in_err-run.ensures.fault)
+    rw (p.1, p.2) (record {
+      ran = tt;
+      fault = comes_fault (tiling_of c.args.machine.now) (texts_between newline c.args.script.now)
+          c.loop-left.calculation c.loop-left.calculation c.cut.result.0.now
+          (parts_behind newline (option_map (λ text. text.now) c.cut.result.1))
+          (here g (goal.at.returns-in_err-run g c).After-cut) c.in_err-run.field-0.0 c.in_err-run.ensures.fault;
+    })
 
 nothing_left : (left : Option (Bor (List ℕ))) → ((x : Bor (List ℕ)) → left ≡ Some x → ⊥) → left ≡ None
 nothing_left None h = refl
 nothing_left (Some x) h = absurd (h x refl)
 
-pub returns-clause-ran : goal.returns-clause-ran
-returns-clause-ran g c =
+pub returns : goal.returns
+returns g c =
     let t = tiling_of c.args.machine.now in
     let all = texts_between newline c.args.script.now in
     let none = nothing_left c.loop-left.left c.in_default.not-Some in
-    subst (λ bytes. ComesOf t none_bound 1 all (Ok bytes)) (sym c.into_text.ensures)
-    (comes_last t all c.loop-left.calculation (subst (Comes t all c.loop-left.calculation)
-    (ap (λ left. parts_behind newline (option_map (λ text. text.now) left)) none)
-    c.loop-left.invariant.comes))
+    record {
+      ran = subst (λ bytes. ComesOf t none_bound 1 all (Ok bytes)) (sym c.into_text.ensures)
+          (comes_last t all c.loop-left.calculation (subst (Comes t all c.loop-left.calculation)
+          (ap (λ left. parts_behind newline (option_map (λ text. text.now) left)) none)
+          c.loop-left.invariant.comes));
+      fault = tt;
+    }

@@ -22,5 +22,5 @@ returns c =
     let coherent = subst IsCoherent (c.tables.ensures.contacts
     ∙ ap (λ (r : Rule). contacts (tiling_of r)) c.checked-2.ensures.rule)
     c.kinds-coherent.ensures.coherent in
-    related m settled law coherent a b c.requires.one_fits c.requires.other_fits c.decide.result
+    related m settled law coherent a b c.requires.fit.one c.requires.fit.other c.decide.result
     (subst (λ t. IsPairVerdict t a b c.decide.result) c.requires.tables c.decide.ensures.verdict)

@@ -1,51 +1,37 @@
-use Rattle.std.proofs.Common.{◌<◌, List, All, length, ◌++◌, ap, ◌∙◌, sym, subst}
-use Rattle.std.specs.List.Sorted.{IsPermutation}
-use Rattle.std.proofs.lemmas.List.{length-map}
+use Rattle.std.proofs.Common.{List, ◌++◌, sym, subst}
 use Rattle.std.proofs.lemmas.Result.{IfOk-weaker}
-use Rattle.tile_place.specs.declared.order_key.OrderKey.{OrderKey}
+use Rattle.tile_place.specs.declared.placed_tile.PlacedTile.{PlacedTile}
+use Rattle.half_glue.specs.declared.pairs.Pair.{Pair}
 use Rattle.half_glue.specs.declared.whole_tile.WholeTile.{WholeTile}
-use Rattle.half_glue.specs.Arranged.{AreWholesArranged}
-use Rattle.half_glue.specs.InOrder.{AreWholesInOrder}
-use Rattle.theory_addresses.specs.Search.{chosen_below}
-use Rattle.half_glue.specs.Keys.{first_keys, is_new_key, whole_at}
-use Rattle.half_glue.specs.Lifted.{whole_of, wholes_of}
-use Rattle.half_glue.proofs.Chosen.{arranged-in_order, arranged-same, arranged-numbered}
-use Rattle.half_glue.proofs.Firsts.{firsts-fit, no_whole}
+use Rattle.half_glue.specs.Arranged.{AreWholesOrdered, AreOrdered}
+use Rattle.half_glue.specs.Lifted.{wholes_of}
+use Rattle.half_glue.specs.Numbered.{AreFirstKeys, AreKeyed, NamePairs}
+use Rattle.half_glue.proofs.OrderedPairs.{keys-named}
+use Rattle.half_glue.proofs.arranged.arranged.Goals.{In_ok-pairs}
 use Rattle.half_glue.proofs.arranged.arranged.Goals as goal
 
-pub picked-requires-clause-keyed : goal.picked-requires-clause-keyed
-picked-requires-clause-keyed c =
-    let made : List WholeTile = wholes_of c.args.frame.now (c.args.tiles.now ++ c.args.made.now.crossed.items) c.args.made.now.pairs.items in
-    let ks : List OrderKey = c.sort_unstable.new.self.items in
-    let mixed : IsPermutation (first_keys made) ks = subst (λ (xs : List OrderKey). IsPermutation xs ks)
-    (c.in_ok-keys.ensures c.args.frame.now) c.sort_unstable.ensures.permutation in
-    subst (λ n. All (λ (k : OrderKey). k.number < n) c.as_slice.result.now)
-    (length-map c.args.made.now.pairs.items (whole_of c.args.frame.now
-    (c.args.tiles.now ++ c.args.made.now.crossed.items)))
-    (subst (All (λ (k : OrderKey). k.number < length made)) (sym c.as_slice.ensures.value) (arranged-numbered made ks mixed))
+pub ordered-requires : goal.ordered-requires
+ordered-requires c =
+    subst (λ (ps : List Pair). NamePairs ps c.in_ok-keys.keys.items) (sym c.as_slice.ensures.value)
+    (keys-named (c.args.tiles.now ++ c.args.made.crossed.items) c.args.made.pairs.items c.in_ok-keys.keys.items c.in_ok-keys.ensures)
 
-pub returns-clause-in_order : goal.returns-clause-in_order
-returns-clause-in_order c =
-    let made : List WholeTile = wholes_of c.args.frame.now (c.args.tiles.now ++ c.args.made.now.crossed.items) c.args.made.now.pairs.items in
-    let ks : List OrderKey = c.sort_unstable.new.self.items in
-    let mixed : IsPermutation (first_keys made) ks = subst (λ (xs : List OrderKey). IsPermutation xs ks)
-    (c.in_ok-keys.ensures c.args.frame.now) c.sort_unstable.ensures.permutation in
-    let fit = firsts-fit c.args.frame.now (c.args.tiles.now ++ c.args.made.now.crossed.items)
-    c.args.made.now.pairs.items c.requires.keyed.fit c.requires.keyed.numbered in
-    IfOk-weaker c.picked.result _ _ (λ wholes h. subst AreWholesInOrder
-    (sym (h no_whole ∙ ap (λ (xs : List OrderKey). chosen_below (is_new_key xs) (whole_at made no_whole xs)
-    (length xs)) c.as_slice.ensures.value))
-    (arranged-in_order made fit ks mixed c.sort_unstable.ensures.sorted no_whole)) c.picked.ensures
+-- the pairs are in order
+are-ordered : (c : In_ok-pairs) → AreOrdered (c.args.tiles.now ++ c.args.made.crossed.items) c.args.made.pairs.items c.in_ok-pairs.pairs.items
+are-ordered c =
+    let all : List PlacedTile = c.args.tiles.now ++ c.args.made.crossed.items in
+    let back = sym c.as_slice.ensures.value in
+    subst (λ (ps : List Pair). AreOrdered all ps c.in_ok-pairs.pairs.items) c.as_slice.ensures.value
+    (c.in_ok-pairs.ensures all (subst (AreKeyed all) back c.requires.keyed)
+    (subst (λ (ps : List Pair). AreFirstKeys all ps c.in_ok-keys.keys.items) back c.in_ok-keys.ensures))
 
-pub returns-clause-same : goal.returns-clause-same
-returns-clause-same c =
-    let made : List WholeTile = wholes_of c.args.frame.now (c.args.tiles.now ++ c.args.made.now.crossed.items) c.args.made.now.pairs.items in
-    let ks : List OrderKey = c.sort_unstable.new.self.items in
-    let mixed : IsPermutation (first_keys made) ks = subst (λ (xs : List OrderKey). IsPermutation xs ks)
-    (c.in_ok-keys.ensures c.args.frame.now) c.sort_unstable.ensures.permutation in
-    let fit = firsts-fit c.args.frame.now (c.args.tiles.now ++ c.args.made.now.crossed.items)
-    c.args.made.now.pairs.items c.requires.keyed.fit c.requires.keyed.numbered in
-    IfOk-weaker c.picked.result _ _ (λ wholes h. subst (AreWholesArranged made)
-    (sym (h no_whole ∙ ap (λ (xs : List OrderKey). chosen_below (is_new_key xs) (whole_at made no_whole xs)
-    (length xs)) c.as_slice.ensures.value))
-    (arranged-same made fit ks mixed c.sort_unstable.ensures.sorted no_whole)) c.picked.ensures
+pub wholes-requires : goal.wholes-requires
+wholes-requires c = record {
+  present = (are-ordered (goal.at.wholes-requires c).In_ok-pairs).numbered;
+  no_deeper = c.requires.no_deeper;
+}
+
+pub returns : goal.returns
+returns c =
+    let made : List WholeTile = wholes_of c.args.frame.now (c.args.tiles.now ++ c.args.made.crossed.items) c.args.made.pairs.items in
+    IfOk-weaker c.wholes.result _ _ (λ ws e. subst (AreWholesOrdered made) (sym e)
+    ((are-ordered (goal.at.returns c).In_ok-pairs).wholes c.args.frame.now)) c.wholes.ensures

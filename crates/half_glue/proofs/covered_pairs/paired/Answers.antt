@@ -12,36 +12,40 @@ use Rattle.half_glue.specs.Found.{no_tile, given_tile}
 use Rattle.half_glue.specs.Limits.{CanBeJoined}
 use Rattle.half_glue.specs.Pairs.{added_pairs}
 use Rattle.half_glue.specs.Sides.{AreSides}
-use Rattle.half_glue.proofs.InnerPairs.{are-placed, read-mark}
+use Rattle.half_glue.proofs.InnerPairs.{window-search, read-mark}
 use Rattle.half_glue.proofs.TakenTiles.{none-crossed, taken-settled, taken-too as inner-taken}
 use Rattle.theory_walks.proofs.Ancestors.{full-later}
 use Rattle.theory_walks.proofs.Outcomes.{if_err-is}
-use Rattle.theory_walks.proofs.Walks.{GrowsTo-self}
+use Rattle.theory_walks.proofs.Walks.{GrowsTo-self, GrowsTo-then}
 use Rattle.half_glue.proofs.SettledTiles.{left-behind, cause-of, one-more}
-use Rattle.half_glue.proofs.Taking.{ArePaired, all-on, paired-on, taken-too, taken-before, all-paired}
-use Rattle.half_glue.proofs.covered_pairs.paired.Given.{Over}
+use Rattle.half_glue.proofs.ArePaired.{ArePaired, taken-before, all-paired}
+use Rattle.half_glue.proofs.PairedOn.{all-on, paired-on}
+use Rattle.half_glue.proofs.Taking.{taken-too}
 use Rattle.half_glue.proofs.covered_pairs.paired.Goals.{After-index}
 use Rattle.half_glue.proofs.covered_pairs.paired.Goals as goal
 
 -- the number is that of a tile
-below-count : (g : Over) (c : After-index g) → c.loop-number.number < length c.args.tiles.now
-below-count g c = subst (λ n. c.loop-number.number < n) c.len-count.ensures c.loop-number-test.true
+below-count : (c : After-index) → c.loop-number.number < length c.args.tiles.now
+below-count c = subst (λ n. c.loop-number.number < n) c.len-count.ensures c.loop-number-test.true
 
-its-tile : (g : Over) (c : After-index g) → Contains c.args.tiles.now (given_tile c.args.tiles.now c.loop-number.number)
-its-tile g c =
+its-tile : (c : After-index) → Contains c.args.tiles.now (given_tile c.args.tiles.now c.loop-number.number)
+its-tile c =
     let i = c.loop-number.number in
-    (i, below-count g c, get_or_default c.args.tiles.now i (given_tile c.args.tiles.now i) no_tile (below-count g c))
+    (i, below-count c, get_or_default c.args.tiles.now i (given_tile c.args.tiles.now i) no_tile (below-count c))
 
-pub other_half-requires-clause-to_glue : goal.other_half-requires-clause-to_glue
-other_half-requires-clause-to_glue g c = record {
-  frame = c.loop-number.invariant.0.grows.is_frame;
-  few = c.requires.to_glue.few;
-  given = all-on c.args.machine.now c.glue_laws.ensures c.args.frame.now c.loop-number.frame c.requires.to_glue.frame
-      c.loop-number.invariant.0.grows c.args.tiles.now c.requires.to_glue.given;
+pub other_half-requires-clause-to_find : goal.other_half-requires-clause-to_find
+other_half-requires-clause-to_find c = record {
+  to_glue = record {
+    frame = c.loop-number.invariant.0.grows.is_frame;
+    few = c.requires.to_glue.few;
+    given = all-on c.args.machine.now c.glue_laws.ensures c.args.frame.now c.loop-number.frame c.requires.to_glue.frame
+        c.loop-number.invariant.0.grows c.args.tiles.now c.requires.to_glue.given;
+  };
+  below = below-count ((goal.at.other_half-requires-clause-to_find c).After-index);
 }
 
 pub loop-number-preserved : goal.loop-number-preserved
-loop-number-preserved g c =
+loop-number-preserved c =
     let L = c.glue_laws.ensures in
     let t = tiling_of c.args.machine.now in
     let old = c.args.frame.now in
@@ -50,7 +54,7 @@ loop-number-preserved g c =
     let tiles : List PlacedTile = c.args.tiles.now in
     let inner : List Pair = c.in_ok-inner.inner.items in
     let i = c.loop-number.number in
-    let below = below-count g ((goal.at.loop-number-preserved g c).After-index) in
+    let below = below-count ((goal.at.loop-number-preserved c).After-index) in
     let x = given_tile tiles i in
     let settled = c.loop-number.invariant.0 in
     let up = c.in_ok-found.ensures.ends.frame in
@@ -75,7 +79,7 @@ loop-number-preserved g c =
     )
 
 pub returns-clause-paired : goal.returns-clause-paired
-returns-clause-paired g c =
+returns-clause-paired c =
     all-paired (tiling_of c.args.machine.now) c.loop-number.frame c.args.tiles.now
     (length c.in_ok-inner.inner.items) c.loop-number.number c.loop-number.outer.crossed.items
     (c.in_ok-inner.inner.items ++ c.loop-number.outer.pairs.items)
@@ -83,16 +87,17 @@ returns-clause-paired g c =
     (λ l. omega (arith, l, c.loop-number-test.false, c.len-count.ensures)) c.loop-number.invariant.1
 
 pub inner_pairs-requires-clause-sought : goal.inner_pairs-requires-clause-sought
-inner_pairs-requires-clause-sought g c = record {
-  few = c.requires.to_glue.few;
-  placed = are-placed c.args.machine.now c.glue_laws.ensures c.args.frame.now
-      c.requires.to_glue.frame c.args.tiles.now c.requires.to_glue.given;
-  in_order = c.requires.in_order;
-  sides = subst (AreSides (tiling_of c.args.machine.now)) (sym c.as_slice.ensures.value) c.in_ok-sides.ensures;
-}
+inner_pairs-requires-clause-sought c =
+    window-search _ c.glue_laws.ensures c.args.frame.now c.requires.to_glue c.requires.in_order
+    (subst (AreSides (tiling_of c.args.machine.now)) (sym c.as_slice.ensures.value) c.in_ok-sides.ensures)
+
+pub other_half-requires-clause-sought : goal.other_half-requires-clause-sought
+other_half-requires-clause-sought c =
+    window-search _ c.glue_laws.ensures c.args.frame.now c.requires.to_glue c.requires.in_order
+    (subst (AreSides (tiling_of c.args.machine.now)) (sym c.as_slice.ensures.value) c.in_ok-sides.ensures)
 
 pub loop-number-init : goal.loop-number-init
-loop-number-init g c =
+loop-number-init c =
     let t = tiling_of c.args.machine.now in
     let f = c.args.frame.now in
     let tiles : List PlacedTile = c.args.tiles.now in
@@ -111,7 +116,7 @@ loop-number-init g c =
     )
 
 pub loop-number-preserved-then-index : goal.loop-number-preserved-then-index
-loop-number-preserved-then-index g c =
+loop-number-preserved-then-index c =
     let L = c.glue_laws.ensures in
     let t = tiling_of c.args.machine.now in
     let old = c.args.frame.now in
@@ -121,7 +126,7 @@ loop-number-preserved-then-index g c =
     let outer : List Pair = c.loop-number.outer.pairs.items in
     let crossed : List PlacedTile = c.loop-number.outer.crossed.items in
     let i = c.loop-number.number in
-    let below = below-count g ((goal.at.loop-number-preserved-then-index g c).After-index) in
+    let below = below-count ((goal.at.loop-number-preserved-then-index c).After-index) in
     let x = given_tile tiles i in
     let settled = c.loop-number.invariant.0 in
     let is = settled.grows.is_frame in
@@ -142,10 +147,11 @@ loop-number-preserved-then-index g c =
     )
 
 pub returns-in_err-found-clause-ends : goal.returns-in_err-found-clause-ends
-returns-in_err-found-clause-ends g c = record {
-  frame = grind (arith, common_steps);
+returns-in_err-found-clause-ends c = record {
+  frame = GrowsTo-then (tiling_of c.args.machine.now) c.args.frame.now c.loop-number.frame c.other_half.new.frame
+      c.loop-number.invariant.0.grows c.in_err-found.ensures.ends.frame;
   not_beyond = left-behind (tiling_of c.args.machine.now) c.args.frame.now c.loop-number.frame c.loop-number.invariant.0.grows
-      c.args.tiles.now _ (its-tile g ((goal.at.returns-in_err-found-clause-ends g c).After-index))
+      c.args.tiles.now _ (its-tile ((goal.at.returns-in_err-found-clause-ends c).After-index))
       c.loop-number.invariant.0.least c.other_half.new.frame c.in_err-found.ensures.ends.least;
   least = grind (arith, common_steps);
   within = grind (arith, common_steps);
@@ -154,18 +160,19 @@ returns-in_err-found-clause-ends g c = record {
       absurd (cc (c.in_err-found.ensures.ends.answered
       (subst (λ y. CanBeJoined t y (given_tile c.args.tiles.now c.loop-number.number))
       (sym (full-later t c.args.frame.now c.loop-number.frame c.loop-number.invariant.0.grows))
-      (can c.loop-number.number no_tile (below-count g ((goal.at.returns-in_err-found-clause-ends g c).After-index))))));
+      (can c.loop-number.number no_tile (below-count ((goal.at.returns-in_err-found-clause-ends c).After-index))))));
   cause = if_err-is _ c.from_residual-in_err-found.result c.in_err-found.field-0.0 c.from_residual-in_err-found.ensures.1
       (cause-of (tiling_of c.args.machine.now) c.args.frame.now c.loop-number.frame
-      c.loop-number.invariant.0.grows c.args.tiles.now _ (its-tile g ((goal.at.returns-in_err-found-clause-ends g c).After-index))
+      c.loop-number.invariant.0.grows c.args.tiles.now _ (its-tile ((goal.at.returns-in_err-found-clause-ends c).After-index))
       c.other_half.new.frame c.in_err-found.field-0.0 c.in_err-found.ensures.ends.cause);
 }
 
 pub returns-in_err-put_covered-clause-ends : goal.returns-in_err-put_covered-clause-ends
-returns-in_err-put_covered-clause-ends g c = record {
-  frame = grind (arith, common_steps);
+returns-in_err-put_covered-clause-ends c = record {
+  frame = GrowsTo-then (tiling_of c.args.machine.now) c.args.frame.now c.loop-number.frame c.other_half.new.frame
+      c.loop-number.invariant.0.grows c.in_ok-found.ensures.ends.frame;
   not_beyond = left-behind (tiling_of c.args.machine.now) c.args.frame.now c.loop-number.frame c.loop-number.invariant.0.grows
-      c.args.tiles.now _ (its-tile g ((goal.at.returns-in_err-put_covered-clause-ends g c).After-index))
+      c.args.tiles.now _ (its-tile ((goal.at.returns-in_err-put_covered-clause-ends c).After-index))
       c.loop-number.invariant.0.least c.other_half.new.frame c.in_ok-found.ensures.ends.least;
   least = grind (arith, common_steps);
   within = grind (arith, common_steps);
@@ -174,7 +181,7 @@ returns-in_err-put_covered-clause-ends g c = record {
 }
 
 pub returns-clause-ends : goal.returns-clause-ends
-returns-clause-ends g c = record {
+returns-clause-ends c = record {
   frame = grind (arith, common_steps);
   not_beyond = c.loop-number.invariant.0.least;
   least = record {

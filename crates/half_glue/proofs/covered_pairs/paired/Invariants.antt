@@ -1,11 +1,11 @@
 use Rattle.std.proofs.Common.{◌++◌, take, length}
 use Rattle.rule_model.specs.Tiling.{tiling_of}
 use Rattle.half_glue.proofs.SettledTiles.{AreSettled}
-use Rattle.half_glue.proofs.Taking.{ArePaired}
+use Rattle.half_glue.proofs.ArePaired.{ArePaired}
 use Rattle.half_glue.proofs.covered_pairs.paired.Given as goal
 
 abbrev pub invariant-loop-number : goal.invariant-loop-number
-invariant-loop-number g l =
+invariant-loop-number l =
     AreSettled (tiling_of l.fn.machine) l.fn.frame l.frame l.fn.tiles (take l.number l.fn.tiles)
     × ArePaired (tiling_of l.fn.machine) l.frame l.fn.tiles (length l.inner.items) l.number
     l.outer.crossed.items (l.inner.items ++ l.outer.pairs.items)

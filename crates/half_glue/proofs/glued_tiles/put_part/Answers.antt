@@ -10,15 +10,15 @@ use Rattle.half_glue.proofs.glued_tiles.put_part.Goals as goal
 
 pub raise-requires : goal.raise-requires
 raise-requires c = record {
-  no_deeper = subst (IsNoDeeper c.args.frame.now) (sym c.put_loose.ensures)
+  no_deeper = subst (IsNoDeeper c.args.frame.now) (sym c.put.ensures)
       (c.requires.no_deeper c.args.number no_tile c.requires.below);
 }
 
 pub returns : goal.returns
 returns c = λ i. record {
-  kind = (c.put_loose.ensures i).kind;
-  motion = (c.put_loose.ensures i).motion;
+  kind = (c.put.ensures i).kind;
+  motion = (c.put.ensures i).motion;
   addr = (address-known c.raise.new.tile _ c.raise.ensures
       ∙ ap (λ (x : PlacedTile). address_as (lifted_in (whole c.args.frame.now) (address_of x.addr)))
-      c.put_loose.ensures) i;
+      c.put.ensures) i;
 }

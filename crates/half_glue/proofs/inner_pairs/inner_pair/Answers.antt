@@ -1,8 +1,7 @@
 use Rattle.std.proofs.Common.{◌<◌, ◌^◌, None, Some, refl, sym, ◌∙◌, subst, arith}
 use Rattle.std.proofs.lemmas.Bool.{ltb-true}
 use Rattle.cyclo_points.specs.declared.motion.Motion.{Motion}
-use Rattle.cyclo_points.specs.Order.{points_of}
-use Rattle.cyclo_points.specs.Point.{IsWithin}
+use Rattle.tile_place.specs.Motions.{IsMotionOf}
 use Rattle.half_glue.specs.Found.{no_tile, given_tile, StandsAmong}
 use Rattle.half_glue.proofs.AmongTiles.{kind-is, motion-is}
 use Rattle.rule_model.specs.Tiling.{tiling_of}
@@ -11,55 +10,49 @@ use Rattle.half_glue.proofs.inner_pairs.inner_pair.Goals as goal
 
 pub returns-in-None-clause-inner : goal.returns-in-None-clause-inner
 returns-in-None-clause-inner c = λ f is given.
-    let kind = kind-is c.args.tiles.now c.args.number c.requires.below c.kind-kind.result c.kind-kind.ensures in
-    alone-inner c.args.machine.now c.glue_laws.ensures c.args.tiles.now c.args.sides.now c.requires.sought.sides
+    let kind = kind-is c.args.search.now.tiles.now c.args.number c.requires.below c.kind-kind.result c.kind-kind.ensures in
+    alone-inner c.args.search.now.machine.now c.glue_laws.ensures c.args.search.now.tiles.now c.args.search.now.sides.now c.requires.sought.sides
     c.args.number c.requires.below f is given c.from.result (c.from.ensures ∙ kind) c.in-None.is
     (record { first = c.args.number; second = None }) refl
 
-pub half_among-requires-clause-turn_below : goal.half_among-requires-clause-turn_below
-half_among-requires-clause-turn_below c =
-    subst (λ (v : Motion). v.turn < (points_of c.args.machine.now.order).order)
-    (sym (motion-is c.args.tiles.now c.args.number c.requires.below c.motion-motion.result
-    c.motion-motion.ensures)) (c.requires.sought.placed c.args.number no_tile c.requires.below).turn_below
-
-pub half_among-requires-clause-within : goal.half_among-requires-clause-within
-half_among-requires-clause-within c =
-    subst (λ (v : Motion). IsWithin (2 ^ 24) v.shift)
-    (sym (motion-is c.args.tiles.now c.args.number c.requires.below c.motion-motion.result
-    c.motion-motion.ensures)) (c.requires.sought.placed c.args.number no_tile c.requires.below).within
+pub half_among-requires-clause-motion : goal.half_among-requires-clause-motion
+half_among-requires-clause-motion c =
+    subst (IsMotionOf c.args.search.now.machine.now.order (2 ^ 24))
+    (sym (motion-is c.args.search.now.tiles.now c.args.number c.requires.below c.motion-motion.result
+    c.motion-motion.ensures)) (c.requires.sought.placed c.args.number no_tile c.requires.below).motion
 
 pub returns-clause-present : goal.returns-clause-present
 returns-clause-present c =
     record {
       first = c.requires.below;
-      second = among-below c.args.machine.now.order c.in-Some.side.other
-          c.motion-motion.result c.args.tiles.now c.in_ok-second.second c.in_ok-second.ensures;
+      second = among-below c.args.search.now.machine.now.order c.in-Some.side.other
+          c.motion-motion.result c.args.search.now.tiles.now c.in_ok-second.second c.in_ok-second.ensures;
     }
 
 pub returns-clause-inner : goal.returns-clause-inner
 returns-clause-inner c = λ f is given.
-    let m = c.args.machine.now in
-    let kind = kind-is c.args.tiles.now c.args.number c.requires.below c.kind-kind.result c.kind-kind.ensures in
-    let motion = motion-is c.args.tiles.now c.args.number c.requires.below c.motion-motion.result c.motion-motion.ensures in
+    let m = c.args.search.now.machine.now in
+    let kind = kind-is c.args.search.now.tiles.now c.args.number c.requires.below c.kind-kind.result c.kind-kind.ensures in
+    let motion = motion-is c.args.search.now.tiles.now c.args.number c.requires.below c.motion-motion.result c.motion-motion.ensures in
     let less : c.kind-kind.result < c.in_ok-other.other.kind = ltb-true c.kind-kind.result
     c.in_ok-other.other.kind (sym c.is_less.ensures ∙ c.if-not-is_less.false) in
-    pair-inner m c.glue_laws.ensures c.args.tiles.now c.args.sides.now c.requires.sought.sides c.args.number
+    pair-inner m c.glue_laws.ensures c.args.search.now.tiles.now c.args.search.now.sides.now c.requires.sought.sides c.args.number
     c.requires.below f is given c.from.result (c.from.ensures ∙ kind) c.in-Some.side c.in-Some.is
     c.in_ok-other.other c.in_ok-other.was (omega (arith, less, kind))
-    c.in_ok-second.second (subst (λ (v : Motion). StandsAmong m.order c.in-Some.side.other v c.args.tiles.now
+    c.in_ok-second.second (subst (λ (v : Motion). StandsAmong m.order c.in-Some.side.other v c.args.search.now.tiles.now
     c.in_ok-second.second) motion c.in_ok-second.ensures)
     (record { first = c.args.number; second = Some c.in_ok-second.second }) refl
 
-pub bounds-sides-from : goal.bounds-sides-from
-bounds-sides-from c =
-    read-below (tiling_of c.args.machine.now) c.args.sides.now c.requires.sought.sides
-    (given_tile c.args.tiles.now c.args.number) (c.requires.sought.placed c.args.number no_tile c.requires.below)
+pub bounds-search-from : goal.bounds-search-from
+bounds-search-from c =
+    read-below (tiling_of c.args.search.now.machine.now) c.args.search.now.sides.now c.requires.sought.sides
+    (given_tile c.args.search.now.tiles.now c.args.number) (c.requires.sought.placed c.args.number no_tile c.requires.below)
     c.kind-kind.result c.from.result c.from.ensures
-    (kind-is c.args.tiles.now c.args.number c.requires.below c.kind-kind.result c.kind-kind.ensures)
+    (kind-is c.args.search.now.tiles.now c.args.number c.requires.below c.kind-kind.result c.kind-kind.ensures)
 
 pub half_among-requires-clause-other : goal.half_among-requires-clause-other
 half_among-requires-clause-other c =
-    read-other (tiling_of c.args.machine.now) c.args.sides.now c.requires.sought.sides
-    (given_tile c.args.tiles.now c.args.number) (c.requires.sought.placed c.args.number no_tile c.requires.below)
+    read-other (tiling_of c.args.search.now.machine.now) c.args.search.now.sides.now c.requires.sought.sides
+    (given_tile c.args.search.now.tiles.now c.args.number) (c.requires.sought.placed c.args.number no_tile c.requires.below)
     c.kind-kind.result c.from.result c.from.ensures
-    (kind-is c.args.tiles.now c.args.number c.requires.below c.kind-kind.result c.kind-kind.ensures) c.in-Some.side c.in-Some.is
+    (kind-is c.args.search.now.tiles.now c.args.number c.requires.below c.kind-kind.result c.kind-kind.ensures) c.in-Some.side c.in-Some.is

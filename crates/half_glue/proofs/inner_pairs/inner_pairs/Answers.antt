@@ -10,8 +10,8 @@ use Rattle.half_glue.proofs.inner_pairs.inner_pairs.Goals as goal
 
 pub loop-number-preserved : goal.loop-number-preserved
 loop-number-preserved c =
-    let t = tiling_of c.args.machine.now in
-    let tiles = c.args.tiles.now in
+    let t = tiling_of c.args.search.now.machine.now in
+    let tiles = c.args.search.now.tiles.now in
     let n = c.loop-number.number in
     let before : List Pair = c.loop-number.pairs.items in
     let inv = c.loop-number.invariant in

@@ -7,9 +7,9 @@ use Rattle.half_glue.proofs.inner_pairs.inner_pairs.Given as goal
 
 abbrev pub invariant-loop-number : goal.invariant-loop-number
 invariant-loop-number l = record {
-  as_many : length l.taken ≡ length l.fn.tiles;
+  as_many : length l.taken ≡ length l.fn.search.tiles.now;
   rising : AreRising l.number l.pairs.items;
-  inner : (f : FrameValue) → IsFrameOf (tiling_of l.fn.machine) f
-      → AreGiven (tiling_of l.fn.machine) f l.fn.tiles
-      → AreInner (tiling_of l.fn.machine) f l.fn.tiles l.pairs.items l.taken;
+  inner : (f : FrameValue) → IsFrameOf (tiling_of l.fn.search.machine.now) f
+      → AreGiven (tiling_of l.fn.search.machine.now) f l.fn.search.tiles.now
+      → AreInner (tiling_of l.fn.search.machine.now) f l.fn.search.tiles.now l.pairs.items l.taken;
 }

@@ -1,45 +1,87 @@
-use Rattle.std.proofs.Common.{◌+◌, All, List, ◌++◌, length, sym, subst, arith, take_all}
+use Rattle.std.proofs.Common.{◌+◌, All, List, [], ◌++◌, length, sym, subst, arith, take_all, append-nil}
 use Rattle.std.proofs.lemmas.Grind.{common_steps}
 use Rattle.std.specs.List.{Contains}
 use Rattle.std.proofs.lemmas.List.{get_or_default}
+use Rattle.std.proofs.lemmas.List.Elements.{All-nil}
 use Rattle.rule_model.specs.Tiling.{tiling_of}
 use Rattle.tile_place.specs.declared.placed_tile.PlacedTile.{PlacedTile}
 use Rattle.theory_walks.specs.Ancestors.{full}
 use Rattle.half_glue.specs.declared.pairs.Pair.{Pair}
 use Rattle.half_glue.specs.Depth.{IsGluedInside}
 use Rattle.half_glue.specs.Found.{no_tile, given_tile}
+use Rattle.half_glue.specs.Given.{IsGiven}
+use Rattle.half_glue.specs.Keys.{AreKeysOf}
 use Rattle.half_glue.specs.Limits.{CanBeJoined}
-use Rattle.half_glue.specs.Pairs.{added_pairs}
+use Rattle.half_glue.specs.Pairs.{ArePresent, IsLoose, added_pairs}
+use Rattle.half_glue.specs.Sides.{AreSides}
 use Rattle.half_glue.proofs.Halves.{given-key}
 use Rattle.theory_walks.proofs.Ancestors.{full-later}
 use Rattle.theory_walks.proofs.Outcomes.{if_err-is}
+use Rattle.theory_walks.proofs.Walks.{GrowsTo-self, GrowsTo-then}
 use Rattle.half_glue.proofs.SettledTiles.{left-behind, cause-of, one-more}
-use Rattle.half_glue.proofs.Taking.{ArePaired, all-on, paired-on, taken-too, all-paired}
-use Rattle.half_glue.proofs.paired.paired.Given.{Over}
+use Rattle.half_glue.proofs.ArePaired.{ArePaired, all-paired}
+use Rattle.half_glue.proofs.PairedOn.{all-on, paired-on}
+use Rattle.half_glue.proofs.Taking.{taken-too}
 use Rattle.half_glue.proofs.paired.paired.Goals.{After-other_half}
 use Rattle.half_glue.proofs.paired.paired.Goals as goal
 
 -- the number is that of a tile
-its-tile : (g : Over) (c : After-other_half g) → Contains c.args.tiles.now (given_tile c.args.tiles.now c.loop-number.number)
-its-tile g c =
+its-tile : (c : After-other_half) → Contains c.args.tiles.now (given_tile c.args.tiles.now c.loop-number.number)
+its-tile c =
     let i = c.loop-number.number in
     let below = c.loop-number-test.true in
     (i, below, get_or_default c.args.tiles.now i (given_tile c.args.tiles.now i) no_tile below)
 
 pub sorted_keys-requires : goal.sorted_keys-requires
-sorted_keys-requires g c = record {
+sorted_keys-requires c = record {
   few = c.requires.to_glue.few;
   fit = λ k d l. given-key c.args.machine.now c.glue_laws.ensures
       c.args.frame.now c.requires.to_glue.frame _ (c.requires.to_glue.given k d l);
 }
 
-pub other_half-requires-clause-given : goal.other_half-requires-clause-given
-other_half-requires-clause-given g c =
-    all-on c.args.machine.now c.glue_laws.ensures c.args.frame.now c.loop-number.frame c.requires.to_glue.frame
-    c.loop-number.invariant.0.grows c.args.tiles.now c.requires.to_glue.given
+pub other_half-requires-clause-sought : goal.other_half-requires-clause-sought
+other_half-requires-clause-sought c = record {
+  keys = subst (AreKeysOf c.args.tiles.now) (sym c.as_slice-2.ensures.value)
+      (record { same = c.in_ok-keys.ensures.same; sorted = c.in_ok-keys.ensures.sorted });
+  sides = subst (AreSides (tiling_of c.args.machine.now)) (sym c.as_slice.ensures.value) c.in_ok-sides.ensures;
+}
+
+pub other_half-requires-clause-to_find : goal.other_half-requires-clause-to_find
+other_half-requires-clause-to_find c = record {
+  to_glue = record {
+    frame = c.loop-number.invariant.0.grows.is_frame;
+    few = c.requires.to_glue.few;
+    given = all-on c.args.machine.now c.glue_laws.ensures c.args.frame.now c.loop-number.frame c.requires.to_glue.frame
+        c.loop-number.invariant.0.grows c.args.tiles.now c.requires.to_glue.given;
+  };
+  below = c.loop-number-test.true;
+}
+
+pub loop-number-init : goal.loop-number-init
+loop-number-init c =
+    let t = tiling_of c.args.machine.now in
+    let f = c.args.frame.now in
+    let tiles : List PlacedTile = c.args.tiles.now in
+    let none : ArePaired t f tiles 0 0 [] [] = record {
+      few = omega arith;
+      few_crossed = omega arith;
+      given = subst (All (IsGiven t f)) (sym (append-nil tiles)) c.requires.to_glue.given;
+      present = All-nil (ArePresent (length (tiles ++ [])));
+      loose = All-nil (IsLoose t f tiles);
+      taken = λ k l. absurd (omega (arith, l));
+    } in (
+      record {
+        grows = GrowsTo-self t f c.requires.to_glue.frame;
+        inside = All-nil (IsGluedInside t f (length f.digits));
+        joined = All-nil (CanBeJoined t (full t f));
+        least = λ k l h. absurd (omega (arith, l, h));
+      },
+      subst (λ (xs : List PlacedTile). ArePaired t f tiles 0 0 xs c.in_ok-with_capacity.field-0.items) (sym c.new.ensures.items)
+          (subst (λ (ps : List Pair). ArePaired t f tiles 0 0 [] ps) (sym c.in_ok-with_capacity.ensures.items) none),
+    )
 
 pub loop-number-preserved : goal.loop-number-preserved
-loop-number-preserved g c =
+loop-number-preserved c =
     let m = c.args.machine.now in
     let L = c.glue_laws.ensures in
     let t = tiling_of m in
@@ -67,16 +109,17 @@ loop-number-preserved g c =
     )
 
 pub returns-clause-paired : goal.returns-clause-paired
-returns-clause-paired g c =
+returns-clause-paired c =
     all-paired (tiling_of c.args.machine.now) c.loop-number.frame c.args.tiles.now 0 c.loop-number.number
     c.loop-number.made.crossed.items c.loop-number.made.pairs.items
     (omega arith) c.loop-number.auto.number-end (λ l. omega (arith, l, c.loop-number-test.false)) c.loop-number.invariant.1
 
 pub returns-in_err-found-clause-ends : goal.returns-in_err-found-clause-ends
-returns-in_err-found-clause-ends g c = record {
-  frame = grind (arith, common_steps);
+returns-in_err-found-clause-ends c = record {
+  frame = GrowsTo-then (tiling_of c.args.machine.now) c.args.frame.now c.loop-number.frame c.other_half.new.frame
+      c.loop-number.invariant.0.grows c.in_err-found.ensures.ends.frame;
   not_beyond = left-behind (tiling_of c.args.machine.now) c.args.frame.now c.loop-number.frame c.loop-number.invariant.0.grows
-      c.args.tiles.now _ (its-tile g ((goal.at.returns-in_err-found-clause-ends g c).After-other_half))
+      c.args.tiles.now _ (its-tile ((goal.at.returns-in_err-found-clause-ends c).After-other_half))
       c.loop-number.invariant.0.least c.other_half.new.frame c.in_err-found.ensures.ends.least;
   least = grind (arith, common_steps);
   within = grind (arith, common_steps);
@@ -88,15 +131,16 @@ returns-in_err-found-clause-ends g c = record {
       (can c.loop-number.number no_tile c.loop-number-test.true))));
   cause = if_err-is _ c.from_residual-in_err-found.result c.in_err-found.field-0.0 c.from_residual-in_err-found.ensures.1
       (cause-of (tiling_of c.args.machine.now) c.args.frame.now c.loop-number.frame
-      c.loop-number.invariant.0.grows c.args.tiles.now _ (its-tile g ((goal.at.returns-in_err-found-clause-ends g c).After-other_half))
+      c.loop-number.invariant.0.grows c.args.tiles.now _ (its-tile ((goal.at.returns-in_err-found-clause-ends c).After-other_half))
       c.other_half.new.frame c.in_err-found.field-0.0 c.in_err-found.ensures.ends.cause);
 }
 
 pub returns-in_err-put-clause-ends : goal.returns-in_err-put-clause-ends
-returns-in_err-put-clause-ends g c = record {
-  frame = grind (arith, common_steps);
+returns-in_err-put-clause-ends c = record {
+  frame = GrowsTo-then (tiling_of c.args.machine.now) c.args.frame.now c.loop-number.frame c.other_half.new.frame
+      c.loop-number.invariant.0.grows c.in_ok-found.ensures.ends.frame;
   not_beyond = left-behind (tiling_of c.args.machine.now) c.args.frame.now c.loop-number.frame c.loop-number.invariant.0.grows
-      c.args.tiles.now _ (its-tile g ((goal.at.returns-in_err-put-clause-ends g c).After-other_half))
+      c.args.tiles.now _ (its-tile ((goal.at.returns-in_err-put-clause-ends c).After-other_half))
       c.loop-number.invariant.0.least c.other_half.new.frame c.in_ok-found.ensures.ends.least;
   least = grind (arith, common_steps);
   within = grind (arith, common_steps);
@@ -105,7 +149,7 @@ returns-in_err-put-clause-ends g c = record {
 }
 
 pub returns-clause-ends : goal.returns-clause-ends
-returns-clause-ends g c = record {
+returns-clause-ends c = record {
   frame = grind (arith, common_steps);
   not_beyond = c.loop-number.invariant.0.least;
   least = record {

@@ -36,5 +36,8 @@ lift_each-requires-clause-no_deeper c k d l =
     (deepest-among (length c.args.frame.now.digits) (tiles_listed t (entries_of c.args.lines.now)) (tile_listed t (entry_of e))
     (IsAmong-map (tile_listed t) (entry_of e) (entries_of c.args.lines.now) (IsAmong-map entry_of e c.args.lines.now among)))
 
-pub returns-clause-depth : goal.returns-clause-depth
-returns-clause-depth c = deep-is ((goal.at.returns-clause-depth c).After-grow_to)
+pub returns-clause-grown : goal.returns-clause-grown
+returns-clause-grown c = record {
+  grows = c.grow_to.ensures.frame;
+  depth = deep-is ((goal.at.returns-clause-grown c).After-grow_to);
+}

@@ -1,6 +1,6 @@
-use Rattle.std.proofs.Common.{◌≡◌, ap, ◌∙◌, subst, arith}
+use Rattle.std.proofs.Common.{◌≡◌, sym, ap, ◌∙◌, subst, arith}
 use Rattle.std.proofs.lemmas.Grind.{common_steps}
-use Rattle.theory_walks.specs.Frames.{FrameValue}
+use Rattle.theory_walks.specs.Frames.{FrameValue, IsFrameOf}
 use Rattle.rule_model.specs.declared.rule.Rule.{Rule}
 use Rattle.rule_model.specs.Tiling.{tiling_of, children}
 use Rattle.listing_text.specs.Listing.{listing_in}
@@ -99,5 +99,10 @@ returns-in-Some-clause-depth c = grind (arith, common_steps)
 pub returns-in-Some-clause-right : goal.returns-in-Some-clause-right
 returns-in-Some-clause-right c = grind (arith, common_steps)
 
-pub by_walk-requires-clause-frame : goal.by_walk-requires-clause-frame
-by_walk-requires-clause-frame c = grind (arith, common_steps)
+pub by_walk-requires : goal.by_walk-requires
+by_walk-requires c = record {
+  ready = record {
+    frame = subst (IsFrameOf (tiling_of c.args.machine.now)) (sym c.in_default.ensures.stays) c.requires.frame;
+    window_fits = c.requires.window_fits;
+  };
+}

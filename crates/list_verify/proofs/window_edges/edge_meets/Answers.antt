@@ -5,6 +5,7 @@ use Rattle.cyclo_points.specs.Order.{points_of}
 use Rattle.cyclo_points.specs.Point.{point_in}
 use Rattle.theory_plane.specs.Box.{EdgeMeetsBox}
 use Rattle.plane_geom.specs.declared.window.Window.{Window}
+use Rattle.rule_model.specs.declared.rule.Rule.{Rule}
 use Rattle.rule_model.specs.Usable.{origin}
 use Rattle.theory_substitution.specs.Plane.{plane_point}
 use Rattle.theory_windows.specs.Outlines.{MeetsBox}
@@ -30,6 +31,9 @@ same-test o w corners e n b c d he hn next h =
     (get_or-default corners n d origin hn ∙ ap (λ k. get_or corners k origin) next) h)
 
 pub returns : goal.returns
-returns c = same-test c.args.order c.args.window.now c.args.corners.now c.args.edge c.next_of-next.result
+returns c = subst (λ o. IsTrue c.edge_meets_box.result ↔ MeetsBox (points_of o).real (window_box o c.args.window.now)
+    (line_between o c.args.corners.now c.args.edge))
+    (c.order-order.ensures.order ∙ ap (λ (r : Rule). r.order) c.checked.ensures.rule)
+    (same-test c.order-order.result c.args.window.now c.args.corners.now c.args.edge c.next_of-next.result
     c.edge_meets_box.result _ _ c.requires.exists c.next_of-next.ensures.below c.next_of-next.ensures.next
-    c.edge_meets_box.ensures.exact
+    c.edge_meets_box.ensures.exact)

@@ -8,8 +8,12 @@ use Rattle.star_walk.specs.Found.{IsOnTheWay}
 use Rattle.theory_walks.proofs.Brought.{Brings, brought}
 use Rattle.star_walk.specs.StarLaws.{HasStarLaws}
 use Rattle.theory_walks.proofs.Outcomes.{if_err-is}
+use Rattle.theory_walks.proofs.Walks.{GrowsTo-then}
 use Rattle.star_walk.proofs.Beyond.{not_beyond-way, not_beyond-turned, never-enough}
-use Rattle.star_walk.proofs.Turning.{started, last-exists, ended, stepped, too_big, not_too_big, limited, not_limited}
+use Rattle.star_walk.proofs.Turning.{started, last-exists}
+use Rattle.star_walk.proofs.Stepped.{ended, stepped}
+use Rattle.star_walk.proofs.TooMany.{too_big, not_too_big}
+use Rattle.star_walk.proofs.AtLimit.{limited, not_limited}
 use Rattle.star_walk.proofs.turn.turn.Given.{Over}
 use Rattle.star_walk.proofs.turn.turn.Goals.{After-base_tile, After-push}
 use Rattle.star_walk.proofs.turn.turn.Goals as goal
@@ -69,48 +73,45 @@ step_round-requires-clause-tile g c =
       };
     }
 
-pub returns-in_err-step_round-clause-cause : goal.returns-in_err-step_round-clause-cause
-returns-in_err-step_round-clause-cause g c =
-    let p = (goal.at.returns-in_err-step_round-clause-cause g c).After-push in
-    let B = brings g ((goal.at.returns-in_err-step_round-clause-cause g c).After-base_tile) in
+pub returns-in_err-step_round-clause-ended : goal.returns-in_err-step_round-clause-ended
+returns-in_err-step_round-clause-ended g c =
+    let p = (goal.at.returns-in_err-step_round-clause-ended g c).After-push in
+    let B = brings g ((goal.at.returns-in_err-step_round-clause-ended g c).After-base_tile) in
+    let w = way g p in
+    let h = c.in_err-step_round.ensures.frame in
     let limit = c.in_err-step_round.field-0.0 in
-    if_err-is (HasStarCause (tiling_of c.args.machine.now) c.step_round.new.frame c.args.vertex)
-    c.from_residual.result (DepthLimit limit.addr limit.edge) c.from_residual.ensures.1
-    (limited c.args.machine.now B.settled B.fits B.laws c.args.frame.now c.requires.vertex.frame c.args.vertex
+    let deepest = c.in_err-step_round.ensures.limit.deepest in
+    let on = c.in_err-step_round.ensures.limit_exactly.0 refl in
+    record {
+      frame = GrowsTo-then (tiling_of c.args.machine.now) c.args.frame.now c.loop-frame.frame c.step_round.new.frame w.grows h;
+      not_beyond = λ n enough. absurd (never-enough c.args.machine.now B.settled B.fits B.laws c.args.frame.now
+          c.requires.vertex.frame c.args.vertex c.requires.vertex.exists c.loop-frame.frame c.push.new.self.items
+          c.loop-frame.corner w c.step_round.new.frame h deepest on n enough);
+      cause = if_err-is (HasStarCause (tiling_of c.args.machine.now) c.step_round.new.frame c.args.vertex)
+          c.from_residual.result (DepthLimit limit.addr limit.edge) c.from_residual.ensures.1
+          (limited c.args.machine.now B.settled B.fits B.laws c.args.frame.now c.requires.vertex.frame c.args.vertex
+          c.requires.vertex.exists c.loop-frame.frame c.push.new.self.items c.loop-frame.corner w c.step_round.new.frame h
+          deepest on limit.addr limit.edge c.in_err-step_round.ensures.limit.tile c.in_err-step_round.ensures.limit.edge);
+      answered = λ limits. absurd (not_limited c.args.machine.now B.settled B.fits B.laws c.args.frame.now
+          c.requires.vertex.frame c.args.vertex c.requires.vertex.exists c.loop-frame.frame c.push.new.self.items
+          c.loop-frame.corner w c.step_round.new.frame h deepest on limits);
+    }
+
+pub returns-then-is_base-clause-ended : goal.returns-then-is_base-clause-ended
+returns-then-is_base-clause-ended g c =
+    let p = (goal.at.returns-then-is_base-clause-ended g c).After-push in
+    let B = brings g ((goal.at.returns-then-is_base-clause-ended g c).After-base_tile) in
+    let turned = ended c.args.machine.now B.settled B.fits B.laws c.args.frame.now c.requires.vertex.frame c.args.vertex
     c.requires.vertex.exists c.loop-frame.frame c.push.new.self.items c.loop-frame.corner (way g p)
-    c.step_round.new.frame c.in_err-step_round.ensures.frame c.in_err-step_round.ensures.limit.deepest
-    (c.in_err-step_round.ensures.limit_exactly.0 refl) limit.addr limit.edge
-    c.in_err-step_round.ensures.limit.tile c.in_err-step_round.ensures.limit.edge)
-
-pub returns-in_err-step_round-clause-not_beyond : goal.returns-in_err-step_round-clause-not_beyond
-returns-in_err-step_round-clause-not_beyond g c =
-    let p = (goal.at.returns-in_err-step_round-clause-not_beyond g c).After-push in
-    let B = brings g ((goal.at.returns-in_err-step_round-clause-not_beyond g c).After-base_tile) in
-    λ n enough. absurd (never-enough c.args.machine.now B.settled B.fits B.laws c.args.frame.now
-    c.requires.vertex.frame c.args.vertex c.requires.vertex.exists c.loop-frame.frame c.push.new.self.items c.loop-frame.corner (way g p)
-    c.step_round.new.frame c.in_err-step_round.ensures.frame c.in_err-step_round.ensures.limit.deepest
-    (c.in_err-step_round.ensures.limit_exactly.0 refl) n enough)
-
-pub returns-in_err-step_round-clause-answered : goal.returns-in_err-step_round-clause-answered
-returns-in_err-step_round-clause-answered g c =
-    let p = (goal.at.returns-in_err-step_round-clause-answered g c).After-push in
-    let B = brings g ((goal.at.returns-in_err-step_round-clause-answered g c).After-base_tile) in
-    λ limits. absurd (not_limited c.args.machine.now B.settled B.fits B.laws c.args.frame.now c.requires.vertex.frame
-    c.args.vertex c.requires.vertex.exists c.loop-frame.frame c.push.new.self.items c.loop-frame.corner
-    (way g p)
-    c.step_round.new.frame c.in_err-step_round.ensures.frame c.in_err-step_round.ensures.limit.deepest
-    (c.in_err-step_round.ensures.limit_exactly.0 refl) limits)
-
-pub returns-then-is_base-clause-not_beyond : goal.returns-then-is_base-clause-not_beyond
-returns-then-is_base-clause-not_beyond g c =
-    let p = (goal.at.returns-then-is_base-clause-not_beyond g c).After-push in
-    let B = brings g ((goal.at.returns-then-is_base-clause-not_beyond g c).After-base_tile) in
-    not_beyond-turned c.args.machine.now B.settled B.fits B.laws c.args.frame.now
-    c.requires.vertex.frame c.args.vertex c.requires.vertex.exists c.step_round.new.frame c.push.new.self.items
-    (ended c.args.machine.now B.settled B.fits B.laws c.args.frame.now
-    c.requires.vertex.frame c.args.vertex c.requires.vertex.exists c.loop-frame.frame c.push.new.self.items c.loop-frame.corner (way g p)
-    c.step_round.new.frame c.in_ok-step_round.ensures.frame c.step_round.new.corner c.in_ok-step_round.ensures.crossed
-    (c.is_base.ensures.0 c.if-is_base.true) (count g p))
+    c.step_round.new.frame c.in_ok-step_round.ensures.frame c.step_round.new.corner
+    c.in_ok-step_round.ensures.crossed (c.is_base.ensures.0 c.if-is_base.true) (count g p) in
+    record {
+      frame = turned.grows;
+      not_beyond = not_beyond-turned c.args.machine.now B.settled B.fits B.laws c.args.frame.now
+          c.requires.vertex.frame c.args.vertex c.requires.vertex.exists c.step_round.new.frame c.push.new.self.items turned;
+      cause = tt;
+      answered = λ limits. refl;
+    }
 
 pub returns-then-is_base-clause-turned : goal.returns-then-is_base-clause-turned
 returns-then-is_base-clause-turned g c =
@@ -121,38 +122,31 @@ returns-then-is_base-clause-turned g c =
     c.step_round.new.frame c.in_ok-step_round.ensures.frame c.step_round.new.corner
     c.in_ok-step_round.ensures.crossed (c.is_base.ensures.0 c.if-is_base.true) (count g p)
 
-pub returns-then-len-eq64-clause-cause : goal.returns-then-len-eq64-clause-cause
-returns-then-len-eq64-clause-cause g c =
-    let p = (goal.at.returns-then-len-eq64-clause-cause g c).After-push in
-    let B = brings g ((goal.at.returns-then-len-eq64-clause-cause g c).After-base_tile) in
-    too_big c.args.machine.now B.settled B.fits B.laws c.args.frame.now c.requires.vertex.frame c.args.vertex
-    c.requires.vertex.exists c.loop-frame.frame c.push.new.self.items c.loop-frame.corner (way g p)
-    c.step_round.new.frame c.in_ok-step_round.ensures.frame c.step_round.new.corner
-    c.in_ok-step_round.ensures.crossed (λ e. absurd (cc (sym c.if-is_base.false ∙ c.is_base.ensures.1 e)))
-    (sym c.len.ensures.value ∙ c.if-len-eq64.true)
-
-pub returns-then-len-eq64-clause-not_beyond : goal.returns-then-len-eq64-clause-not_beyond
-returns-then-len-eq64-clause-not_beyond g c =
-    let p = (goal.at.returns-then-len-eq64-clause-not_beyond g c).After-push in
-    let B = brings g ((goal.at.returns-then-len-eq64-clause-not_beyond g c).After-base_tile) in
-    not_beyond-way c.args.machine.now B.settled B.fits B.laws c.args.frame.now
-    c.requires.vertex.frame c.args.vertex c.requires.vertex.exists c.step_round.new.frame
-    (c.push.new.self.items ++ c.step_round.new.corner ∷ []) c.step_round.new.corner
-    (stepped c.args.machine.now B.settled B.fits B.laws c.args.frame.now
-    c.requires.vertex.frame c.args.vertex c.requires.vertex.exists c.loop-frame.frame c.push.new.self.items c.loop-frame.corner (way g p)
-    c.step_round.new.frame c.in_ok-step_round.ensures.frame c.step_round.new.corner c.in_ok-step_round.ensures.crossed
-    (λ e. absurd (cc (sym c.if-is_base.false ∙ c.is_base.ensures.1 e))))
-
-pub returns-then-len-eq64-clause-answered : goal.returns-then-len-eq64-clause-answered
-returns-then-len-eq64-clause-answered g c =
-    let p = (goal.at.returns-then-len-eq64-clause-answered g c).After-push in
-    let B = brings g ((goal.at.returns-then-len-eq64-clause-answered g c).After-base_tile) in
-    λ limits. absurd (not_too_big c.args.machine.now B.settled B.fits B.laws c.args.frame.now c.requires.vertex.frame
-    c.args.vertex c.requires.vertex.exists c.loop-frame.frame c.push.new.self.items c.loop-frame.corner
-    (way g p)
-    c.step_round.new.frame c.in_ok-step_round.ensures.frame c.step_round.new.corner
-    c.in_ok-step_round.ensures.crossed (λ e. absurd (cc (sym c.if-is_base.false ∙ c.is_base.ensures.1 e)))
-    (sym c.len.ensures.value ∙ c.if-len-eq64.true) limits)
+pub returns-then-len-eq64-clause-ended : goal.returns-then-len-eq64-clause-ended
+returns-then-len-eq64-clause-ended g c =
+    let p = (goal.at.returns-then-len-eq64-clause-ended g c).After-push in
+    let B = brings g ((goal.at.returns-then-len-eq64-clause-ended g c).After-base_tile) in
+    let h = c.in_ok-step_round.ensures.frame in
+    let crossed = c.in_ok-step_round.ensures.crossed in
+    let full = sym c.len.ensures.value ∙ c.if-len-eq64.true in
+    record {
+      frame = GrowsTo-then (tiling_of c.args.machine.now) c.args.frame.now c.loop-frame.frame c.step_round.new.frame (way g p).grows h;
+      not_beyond = not_beyond-way c.args.machine.now B.settled B.fits B.laws c.args.frame.now
+          c.requires.vertex.frame c.args.vertex c.requires.vertex.exists c.step_round.new.frame
+          (c.push.new.self.items ++ c.step_round.new.corner ∷ []) c.step_round.new.corner
+          (stepped c.args.machine.now B.settled B.fits B.laws c.args.frame.now
+          c.requires.vertex.frame c.args.vertex c.requires.vertex.exists c.loop-frame.frame c.push.new.self.items
+          c.loop-frame.corner (way g p) c.step_round.new.frame h c.step_round.new.corner crossed
+          (λ e. absurd (cc (sym c.if-is_base.false ∙ c.is_base.ensures.1 e))));
+      cause = too_big c.args.machine.now B.settled B.fits B.laws c.args.frame.now c.requires.vertex.frame c.args.vertex
+          c.requires.vertex.exists c.loop-frame.frame c.push.new.self.items c.loop-frame.corner (way g p)
+          c.step_round.new.frame h c.step_round.new.corner crossed
+          (λ e. absurd (cc (sym c.if-is_base.false ∙ c.is_base.ensures.1 e))) full;
+      answered = λ limits. absurd (not_too_big c.args.machine.now B.settled B.fits B.laws c.args.frame.now
+          c.requires.vertex.frame c.args.vertex c.requires.vertex.exists c.loop-frame.frame c.push.new.self.items
+          c.loop-frame.corner (way g p) c.step_round.new.frame h c.step_round.new.corner crossed
+          (λ e. absurd (cc (sym c.if-is_base.false ∙ c.is_base.ensures.1 e))) full limits);
+    }
 
 pub loop-frame-preserved : goal.loop-frame-preserved
 loop-frame-preserved g c =

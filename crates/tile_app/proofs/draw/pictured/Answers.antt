@@ -52,9 +52,9 @@ returns-in_err-wholes-clause-refused c =
       drawn = x.drawn;
       in_order = x.in_order;
       covered = x.covered;
-    }) c.glue_covered.new.frame c.glue_covered.ensures.frame
+    }) c.glue_covered.new.frame c.glue_covered.ensures.ends.frame
     c.glue_covered.result c.in_err-wholes.field-0.0 c.in_err-wholes.was
-    c.in_err-wholes.ensures.cause c.glue_covered.ensures.answered)
+    c.in_err-wholes.ensures.ends.cause c.glue_covered.ensures.ends.answered)
 
 -- ---- the pictures
 pub returns-in_ok-wholes-clause-can : goal.returns-in_ok-wholes-clause-can
@@ -69,7 +69,7 @@ returns-in_ok-wholes-clause-can c =
     let given = may-be-given t g tiles (c.given_law.ensures t g) x.stand
     (can_be_drawn t c.args.frame.now g c.args.window.now c.requires.frame x.frame x.within x.least tiles x.drawn x.stand) in (
       wholes-drawn t h c.whole_tiles_law.ensures.glue_edge tiles wholes y.whole_tiles
-          (c.parts_law.ensures g h tiles wholes x.frame.is_frame y.frame given y.within y.whole_tiles),
+          (c.parts_law.ensures g h tiles wholes x.frame.is_frame y.ends.frame given y.ends.within y.whole_tiles),
       c.new.ensures,
     )
 
@@ -81,7 +81,8 @@ returns-in_ok-wholes-clause-pictures c =
     let laws = c.whole_tiles_law.ensures in
     pictures-wholes c.args.whole t c.args.window.now c.args.frame.now c.covered_tiles.new.frame x.within c.in_ok-tiles.tiles
     (record { grown = x.frame; least = x.least; stand = x.stand; drawn = x.drawn; in_order = x.in_order; covered = x.covered })
-    c.if-whole.true laws.counts laws.covering c.glue_covered.new.frame y.frame y.least y.within c.in_ok-wholes.wholes y.whole_tiles y.in_order
+    c.if-whole.true laws.counts laws.covering c.glue_covered.new.frame y.ends.frame y.ends.least y.ends.within c.in_ok-wholes.wholes
+    y.whole_tiles y.in_order
 
 pub returns-in_ok-covered_tiles-clause-can : goal.returns-in_ok-covered_tiles-clause-can
 returns-in_ok-covered_tiles-clause-can c =

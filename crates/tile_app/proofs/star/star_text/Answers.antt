@@ -53,9 +53,9 @@ returns-in_err-found-clause-refused g c =
     (record {
       exists = subst (λ n. c.args.vertex < n) (count g s) c.if-vertex-edges.false;
       beyond = λ h. absurd
-          (cc (c.in_err-found.ensures.answered h));
+          (cc (c.in_err-found.ensures.ended.answered h));
     })
-    c.star.new.frame c.in_err-found.ensures.frame c.in_err-found.field-0.0 c.in_err-found.ensures.cause)
+    c.star.new.frame c.in_err-found.ensures.ended.frame c.in_err-found.field-0.0 c.in_err-found.ensures.ended.cause)
 
 pub returns-clause-printed : goal.returns-clause-printed
 returns-clause-printed g c =
@@ -65,13 +65,14 @@ returns-clause-printed g c =
     let s = (goal.at.returns-clause-printed g c).After-edges-edges in
     let value = c.as_slice.ensures.value in
     record {
-      has = record { exists = subst (λ n. c.args.vertex < n) (count g s) c.if-vertex-edges.false; within = c.in_ok-found.ensures.within };
+      has = record { exists = subst (λ n. c.args.vertex < n) (count g s) c.if-vertex-edges.false; within = c.in_ok-found.ensures.star.within };
       frame = frame;
-      grown = c.in_ok-found.ensures.frame;
-      least = c.in_ok-found.ensures.least;
+      grown = c.in_ok-found.ensures.ended.frame;
+      least = c.in_ok-found.ensures.star.least;
       corners = map (corner_in m.order) c.in_ok-found.found.corners.items;
-      round = c.in_ok-found.ensures.round;
-      in_turn = c.in_ok-found.ensures.turning;
+      round = c.in_ok-found.ensures.star.round;
+      in_turn = c.in_ok-found.ensures.star.turning;
       is_text = subst (λ cs. c.in_ok-star_lines.field-0.items ≡ flat_map (corner_line t) (map (corner_in m.order) cs)) value
-          (c.in_ok-star_lines.ensures t frame (subst (All (λ (k : Corner). Stands t frame k.tile)) (sym value) c.in_ok-found.ensures.stand.stand));
+          (c.in_ok-star_lines.ensures t frame (subst (All (λ (k : Corner). Stands t frame k.tile)) (sym value)
+          c.in_ok-found.ensures.star.stand.stand));
     }

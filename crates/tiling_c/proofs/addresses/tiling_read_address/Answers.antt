@@ -1,21 +1,30 @@
-use Rattle.std.proofs.Common.{◌≡◌, ◌↔◌, Ok, IsOk, subst}
+use Rattle.std.proofs.Common.{inl, inr, refl, sym, ap, ◌∙◌, subst}
 use Rattle.rule_model.specs.Tiling.{tiling_of, children}
-use Rattle.tile_shape.specs.AddressIn.{address_of_text as address_of_text}
-use Rattle.c_values.specs.Addresses.{address_in, NamesTile}
-use Rattle.c_values.specs.Statuses.{ok, bad_address}
+use Rattle.theory_addresses.specs.Address.{Address, Fits}
+use Rattle.c_values.specs.Addresses.{address_in}
+use Rattle.tiling_c.proofs.TextGiven.{ok_read, ok_not_refused, refused_not_ok}
 use Rattle.tiling_c.proofs.addresses.tiling_read_address.Goals as goal
 
-pub returns-clause-read : goal.returns-clause-read
-returns-clause-read c =
-    subst (λ r. c.put_address.result ≡ ok → address_of_text (children (tiling_of r)) c.args.text.now ≡ Ok
-    (address_in c.put_address.new.out)) c.get.ensures c.put_address.ensures.read
+pub returns-in-Ok-clause-shown : goal.returns-in-Ok-clause-shown
+returns-in-Ok-clause-shown c =
+    let uses = c.uses.ensures ∙ ap (λ r. children (tiling_of r)) (c.checked.ensures.rule ∙ c.get.ensures) in
+    record {
+      read = λ _. ok_read _ _ c.args.text.now _ _ uses c.in-Ok.ensures.exact (sym c.write.ensures.its_digits);
+      names = λ _. record {
+        no_deeper = c.write.ensures.no_deeper;
+        fits = subst (λ kinds. Fits kinds (address_in c.write.new.self)) uses
+            (subst (λ (a : Address). Fits c.uses.result.now a) (sym c.write.ensures.its_digits) c.in-Ok.ensures.read.0.fits);
+      };
+      names_none = ok_not_refused _ _ c.args.text.now _ uses c.in-Ok.ensures.exact;
+      statuses = inl refl;
+    }
 
-pub returns-clause-names : goal.returns-clause-names
-returns-clause-names c =
-    subst (λ r. c.put_address.result ≡ ok → NamesTile (tiling_of r) c.put_address.new.out) c.get.ensures c.put_address.ensures.names
-
-pub returns-clause-bad_address : goal.returns-clause-bad_address
-returns-clause-bad_address c =
-    subst (λ r. (c.put_address.result ≡ bad_address)
-    ↔ (¬ IsOk (address_of_text (children (tiling_of r)) c.args.text.now))) c.get.ensures
-    c.put_address.ensures.bad_address
+pub returns-in-Err-clause-shown : goal.returns-in-Err-clause-shown
+returns-in-Err-clause-shown c =
+    let uses = c.uses.ensures ∙ ap (λ r. children (tiling_of r)) (c.checked.ensures.rule ∙ c.get.ensures) in
+    record {
+      read = λ e. absurd (cc e);
+      names = λ e. absurd (cc e);
+      names_none = refused_not_ok _ _ c.args.text.now _ uses c.in-Err.ensures.exact;
+      statuses = inr refl;
+    }

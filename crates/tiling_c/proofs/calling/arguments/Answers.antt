@@ -2,7 +2,7 @@ use Rattle.std.proofs.Common.{lit<, ap, ◌∙◌, map}
 use Rattle.std.proofs.lemmas.Iterator.Consumers.{map_from_collect}
 use Rattle.std.proofs.lemmas.Iterator.Splits.{YieldsList-from_str_split}
 use Rattle.std.proofs.lemmas.List.{take_all}
-use Rattle.tiling_c.proofs.Called.{at_ok}
+use Rattle.tiling_c.proofs.KnownResults.{at_ok}
 use Rattle.tiling_c.proofs.calling.arguments.Goals as goal
 
 pub returns : goal.returns

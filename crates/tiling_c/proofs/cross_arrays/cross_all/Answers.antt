@@ -1,7 +1,8 @@
 use Rattle.std.proofs.Common.{rules, ◌<◌, length, get_or, ◌∙◌, subst, arith}
 use Rattle.std.proofs.lemmas.List.{length-set}
 use Rattle.rule_model.specs.Tiling.{tiling_of}
-use Rattle.tiling_c.specs.Arrays.{ShowsCrossingInArray, no_address, plain_address_at}
+use Rattle.tiling_c.specs.Arrays.{no_address, plain_address_at}
+use Rattle.tiling_c.specs.Crossing.{ShowsCrossingInArray}
 use Rattle.tiling_c.proofs.Arrays.{items_more, rest_more}
 use Rattle.tiling_c.proofs.cross_arrays.cross_all.Goals as goal
 

@@ -1,6 +1,7 @@
 use Rattle.std.proofs.Common.{◌≡◌, ℕ, ◌<◌, ◌≤◌, length, get_or}
 use Rattle.rule_model.specs.Tiling.{tiling_of}
-use Rattle.tiling_c.specs.Arrays.{ShowsCrossingInArray, crossing_at, plain_address_at}
+use Rattle.tiling_c.specs.Arrays.{crossing_at, plain_address_at}
+use Rattle.tiling_c.specs.Crossing.{ShowsCrossingInArray}
 use Rattle.tiling_c.proofs.cross_arrays.cross_all.Given as goal
 
 -- the edges so far are crossed, and further addresses are as they were

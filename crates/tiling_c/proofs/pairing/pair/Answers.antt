@@ -12,7 +12,7 @@ returns-in_default-tile-clause-named g c = (λ e. absurd (cc e), λ w. absurd (c
 
 pub returns-clause-relation : goal.returns-clause-relation
 returns-clause-relation g c =
-    λ _. given_moved (λ x y. ShowsRelation (tiling_of c.args.machine.now) x y
+    given_moved (λ x y. ShowsRelation (tiling_of c.args.machine.now) x y
     (record { relation = c.relation_of-relation.result; backs = c.backs_of-backs.result })) _ _ _ _
     c.in-Some.ensures.seen c.in-Some-tile.ensures.seen (record { backs = c.backs_of-backs.ensures; how = c.relation_of-relation.ensures })
 

@@ -1,16 +1,21 @@
-use Rattle.std.proofs.Common.{◌≡◌, ◌↔◌, subst}
+use Rattle.std.proofs.Common.{inl, inr, refl, subst}
 use Rattle.rule_model.specs.Tiling.{tiling_of}
-use Rattle.c_values.specs.Addresses.{address_in, NamesTile}
-use Rattle.c_values.specs.Statuses.{ok}
-use Rattle.tiling_c.specs.Pairing.{ShowsRelation}
+use Rattle.c_values.specs.Statuses.{ok, bad_address}
+use Rattle.tiling_c.specs.Pairing.{ShowsPair}
 use Rattle.tiling_c.proofs.pairing.tiling_pair.Goals as goal
 
-pub returns-clause-relation : goal.returns-clause-relation
-returns-clause-relation c =
-    subst (λ r. c.pair.result ≡ ok → ShowsRelation (tiling_of r) (address_in c.args.a.now)
-    (address_in c.args.b.now) c.pair.new.out) c.get.ensures c.pair.ensures.relation
+pub returns-in-Some-clause-shown : goal.returns-in-Some-clause-shown
+returns-in-Some-clause-shown c =
+    subst (λ r. ShowsPair (tiling_of r) c.args.a.now c.args.b.now c.in-Some.relation ok) c.get.ensures (record {
+      relation = λ _. c.in-Some.ensures.relation;
+      named = (λ _. c.in-Some.ensures.named.0 refl, λ _. refl);
+      statuses = inl refl;
+    })
 
-pub returns-clause-named : goal.returns-clause-named
-returns-clause-named c =
-    subst (λ r. (c.pair.result ≡ ok) ↔ (NamesTile (tiling_of r) c.args.a.now
-    × NamesTile (tiling_of r) c.args.b.now)) c.get.ensures c.pair.ensures.named
+pub returns-in-None-clause-shown : goal.returns-in-None-clause-shown
+returns-in-None-clause-shown c =
+    subst (λ r. ShowsPair (tiling_of r) c.args.a.now c.args.b.now c.args.out.now bad_address) c.get.ensures (record {
+      relation = λ e. absurd (cc e);
+      named = (λ e. absurd (cc e), λ w. absurd (cc (c.in-None.ensures.named.1 w)));
+      statuses = inr refl;
+    })

@@ -1,17 +1,13 @@
-use Rattle.std.proofs.Common.{◌≡◌, None, IsSome, subst}
+use Rattle.std.proofs.Common.{subst}
 use Rattle.rule_model.specs.Tiling.{tiling_of}
-use Rattle.tile_place.specs.Placing.{first_refused}
-use Rattle.c_values.specs.Addresses.{address_in}
-use Rattle.c_values.specs.Statuses.{ok, coord_limit}
+use Rattle.tiling_c.specs.Placing.{GivesPlace, RefusesPlace}
+use Rattle.tiling_c.proofs.PlaceShown.{shows_place, shows_no_place}
 use Rattle.tiling_c.proofs.placing.tiling_place.Goals as goal
 
-pub returns-clause-within : goal.returns-clause-within
-returns-clause-within c =
-    subst (λ r. c.put_place.result ≡ ok → first_refused (tiling_of r)
-    (address_in c.args.addr.now).digits ≡ None) c.get.ensures c.put_place.ensures.within
+pub returns-in-Ok-clause-shown : goal.returns-in-Ok-clause-shown
+returns-in-Ok-clause-shown c = shows_place _ c.args.addr.now c.in-Ok.motion c.placed.result
+    (subst (λ r. GivesPlace (tiling_of r) c.args.addr.now c.in-Ok.motion) c.get.ensures c.in-Ok.ensures.given) c.placed.ensures
 
-pub returns-clause-coord_limit : goal.returns-clause-coord_limit
-returns-clause-coord_limit c =
-    subst (λ r. c.put_place.result ≡ coord_limit
-    → IsSome (first_refused (tiling_of r) (address_in c.args.addr.now).digits)) c.get.ensures
-    c.put_place.ensures.coord_limit
+pub returns-in-Err-clause-shown : goal.returns-in-Err-clause-shown
+returns-in-Err-clause-shown c = shows_no_place _ c.args.addr.now c.args.out.now c.in-Err.status
+    (subst (λ r. RefusesPlace (tiling_of r) c.args.addr.now c.in-Err.status) c.get.ensures c.in-Err.ensures.refused)

@@ -9,9 +9,11 @@ use Rattle.addr_calc.proofs.calculation.Calculation.pair.Goals as goal
 
 pub decide-requires : goal.decide-requires
 decide-requires c = record {
-  compiled = c.requires.compiled;
-  one_fits = c.requires.all_fit c.args.one.number (address_of c.in-Some-Some.first.now) (sym c.in-Some-Some.ensures);
-  other_fits = c.requires.all_fit c.args.other.number (address_of c.in-Some-Some.second.now) (sym c.in-Some-Some.ensures');
+  compiled = c.requires.ready.compiled;
+  fit = record {
+    one = c.requires.ready.all_fit c.args.one.number (address_of c.in-Some-Some.first.now) (sym c.in-Some-Some.ensures);
+    other = c.requires.ready.all_fit c.args.other.number (address_of c.in-Some-Some.second.now) (sym c.in-Some-Some.ensures');
+  };
 }
 
 pub returns-clause-done : goal.returns-clause-done

@@ -8,5 +8,5 @@ index-requires c = grind (arith, common_steps)
 pub unwrap-number-requires : goal.unwrap-number-requires
 unwrap-number-requires c = grind (arith, elements)
 
-pub place_of-requires : goal.place_of-requires
-place_of-requires c = grind (arith, elements)
+pub place-requires : goal.place-requires
+place-requires c = grind (arith, elements)

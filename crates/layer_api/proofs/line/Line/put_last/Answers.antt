@@ -8,5 +8,5 @@ returns-clause-last c =
     let size : length c.args.self.now ≡ length c.self.inside.bytes - c.self.inside.start = ap length
     (sym c.self.view_is) ∙ length-drop c.self.inside.start c.self.inside.bytes in
     last_bytes c.self.inside.start c.args.count c.self.inside.bytes c.args.text.now c.overwrite.new.out
-    (omega (arith, c.self.told)) (omega (arith, c.self.told, c.self.invariant)) c.requires.count (omega (arith, c.told-text)) c.overwrite.ensures
+    (omega (arith, c.self.told)) (omega (arith, c.self.told, c.self.invariant.0)) c.requires.count (omega (arith, c.told-text)) c.overwrite.ensures
     ∙ ap (λ t. drop (32 - c.args.count) c.args.text.now ++ t) c.self.view_is

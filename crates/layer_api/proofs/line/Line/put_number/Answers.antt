@@ -9,7 +9,7 @@ write_digits-self-inside-requires c =
     let digits : length (decimal c.args.number) ≤ 20 = length-decimal-le 20 c.args.number (omega arith) (omega arith) (omega arith) in
     let size : length c.args.self.now ≡ length c.self.inside.bytes - c.self.inside.start = ap length
     (sym c.self.view_is) ∙ length-drop c.self.inside.start c.self.inside.bytes in
-    (omega (arith, c.self.told), omega (arith, c.self.told, c.self.invariant))
+    (omega (arith, c.self.told), omega (arith, c.self.told, c.self.invariant.0))
 
 pub returns-clause-at_most : goal.returns-clause-at_most
 returns-clause-at_most c =

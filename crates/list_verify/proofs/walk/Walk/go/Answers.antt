@@ -7,15 +7,16 @@ pub loop-place-init : goal.loop-place-init
 loop-place-init g c = none-crossed c.args.self.now c.args.frame.now c.find_centre.new.frame c.args.found.now c.find_centre.new.found
     c.in-Ok.ensures.step.goes_on
 
-pub cross_edges-requires-clause-under_way : goal.cross_edges-requires-clause-under_way
-cross_edges-requires-clause-under_way g c =
-    now c.args.self.now c.args.frame.now c.loop-place.frame c.args.found.now c.loop-place.found c.loop-place.invariant.0
-
-pub cross_edges-requires-clause-line_found : goal.cross_edges-requires-clause-line_found
-cross_edges-requires-clause-line_found g c = is-found c.args.self.now c.walk_laws.ensures c.args.frame.now
-    c.loop-place.frame c.args.found.now c.loop-place.found
-    c.loop-place.place c.loop-place.invariant
-    (omega (arith, c.loop-place.found.lines.ok, c.len.ensures, c.loop-place-test.true)) c.index-line.result.now _ c.index-line.ensures
+pub cross_edges-requires : goal.cross_edges-requires
+cross_edges-requires g c = record {
+  at_line = record {
+    under_way = now c.args.self.now c.args.frame.now c.loop-place.frame c.args.found.now c.loop-place.found c.loop-place.invariant.0;
+    line_found = is-found c.args.self.now c.walk_laws.ensures c.args.frame.now
+        c.loop-place.frame c.args.found.now c.loop-place.found
+        c.loop-place.place c.loop-place.invariant
+        (omega (arith, c.loop-place.found.lines.ok, c.len.ensures, c.loop-place-test.true)) c.index-line.result.now _ c.index-line.ensures;
+  };
+}
 
 pub loop-place-preserved : goal.loop-place-preserved
 loop-place-preserved g c = one-more c.args.self.now c.walk_laws.ensures c.args.frame.now c.loop-place.frame c.args.found.now c.loop-place.found

@@ -3,8 +3,8 @@ use Rattle.theory_walks.proofs.Walks.{GrowsTo-self}
 use Rattle.list_verify.specs.Walk.{tiling_in}
 use Rattle.list_verify.proofs.walk.Walk.run.Goals as goal
 
-pub go-requires-clause-none : goal.go-requires-clause-none
-go-requires-clause-none c = c.in-Ok.ensures
+pub go-requires-clause-begins : goal.go-requires-clause-begins
+go-requires-clause-begins c = record { on_frame = c.requires.on_frame; none = c.in-Ok.ensures }
 
 pub first_unmarked-requires : goal.first_unmarked-requires
 first_unmarked-requires c =

@@ -1,9 +1,0 @@
-use Rattle.std.proofs.Common.{◌≡◌, ◌++◌, take}
-use Rattle.theory_walks.specs.Frames.{FrameValue}
-use Rattle.half_glue.specs.Keys.{first_keys}
-use Rattle.half_glue.specs.Lifted.{wholes_of}
-use Rattle.half_glue.proofs.covered_order.keys.Given as goal
-
-abbrev pub invariant-loop-number : goal.invariant-loop-number
-invariant-loop-number l = (f : FrameValue) → l.keys.items ≡ first_keys
-    (take l.number (wholes_of f (l.fn.tiles ++ l.fn.made.crossed.items) l.fn.made.pairs.items))
