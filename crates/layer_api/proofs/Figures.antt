@@ -87,5 +87,5 @@ pub motion_numbers : (turn : ℕ) (read3 read2 read1 read0 a3 a2 a1 a0 : ℤ) (o
     ∷ (signed_decimal a2 ++ comma ∷ signed_decimal a3)))) ++ old
 motion_numbers turn read3 read2 read1 read0 a3 a2 a1 a0 old b3 c3 b2 p q new i3 i2 i1 i0 e1 e2 e3 e4 e5 e6 =
     let all : new ≡ decimal turn ++ 32 ∷ ((signed_decimal a0 ++ comma ∷ (signed_decimal a1 ++ comma ∷ []))
-        ++ (signed_decimal a2 ++ comma ∷ (signed_decimal a3 ++ old))) = cc in
+    ++ (signed_decimal a2 ++ comma ∷ (signed_decimal a3 ++ old))) = cc in
     all ∙ simp append_assoc
