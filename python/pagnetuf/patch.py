@@ -15,6 +15,7 @@ from typing import (
     Optional,
     Sequence,
     Tuple,
+    TypeVar,
     Union,
     overload,
 )
@@ -37,6 +38,7 @@ if TYPE_CHECKING:  # (each is asked for when its call is made)
     from .stars import Star
     from .tiling import Tiling
 
+AnyPatch = TypeVar("AnyPatch", bound="Patch")
 Tiles = Union[int, slice, Sequence[int], np.ndarray]  # one number, numbers, a slice or a mask
 SHOWN = 5000  # up to so many tiles a notebook shows a patch as a picture
 
@@ -60,8 +62,12 @@ class Patch:
     shifts         int64 (n, 4)
     addresses      ADDRESS (n,)     see `pagnetuf.engine`; `address(i)` is the text
 
-    A patch that was asked for without addresses has none: they and their texts are a ValueError.
+    A patch that was asked for without addresses has none: they and their texts are a ValueError. `centre` is
+    the point, in lengths, from which `connected` grows: the `at` of the window from which the tiles are, or
+    0, 0.
     """
+
+    centre: Tuple[float, float] = (0.0, 0.0)
 
     def __init__(self, rule: Rule, tiles: np.ndarray, addresses: Optional[np.ndarray]):
         self.rule, self.tiles = rule, read_only(tiles)
@@ -69,7 +75,12 @@ class Patch:
         self.kinds, self.turns, self.shifts = (self.tiles[name] for name in ("kind", "turn", "shift"))
 
     def __reduce__(self) -> Tuple[Any, ...]:  # (without what was computed, and read only again)
-        return Patch, (self.rule, self.tiles, self._addresses)
+        return Patch, (self.rule, self.tiles, self._addresses), {"centre": self.centre}
+
+    def _within(self, patch: AnyPatch) -> AnyPatch:
+        """Another patch of the same window."""
+        patch.centre = self.centre
+        return patch
 
     @property
     def has_addresses(self) -> bool:
@@ -336,17 +347,19 @@ class Patch:
             There is no such tile.
         """
         some = numbers_of_tiles("tiles", tiles, len(self))
-        return Patch(self.rule, taken(self.tiles, some), named(self._addresses, some))
+        return self._within(Patch(self.rule, taken(self.tiles, some), named(self._addresses, some)))
 
-    def connected(self, count: int, centre: Sequence[float] = (0.0, 0.0), shape: str = "nearest") -> "Patch":
+    def connected(
+        self, count: int, centre: Optional[Sequence[float]] = None, shape: str = "nearest"
+    ) -> "Patch":
         """A patch that grows from the tile nearest to a point.
 
         Parameters
         ----------
         count : int
             How many tiles it has; they are connected by edges.
-        centre : 2 float
-            The point, in lengths.
+        centre : 2 float, optional
+            The point, in lengths; by default the `at` of the window from which the tiles are.
         shape : {"nearest", "round", "rectangle"}
             With "nearest" the next tile is the one nearest to the point that shares an edge with the patch.
             The others (a rectangle is four by three) are smoother: the next tile is the one that reaches
@@ -367,7 +380,7 @@ class Patch:
 
         if integer("count", count) < 1:
             raise ValueError(f"count is at least 1, and not {count}")
-        centre = floats("centre", centre)
+        centre = floats("centre", self.centre if centre is None else centre)
         if one_of("shape", shape, ("nearest", "round", "rectangle")) != "nearest":
             return self.chosen(grown(self, count, centre, shape))
         return self.chosen(nearest_connected(self, count, centre))
@@ -634,7 +647,8 @@ class WholePatch(Patch):
         self._half_addresses = None if addresses is None else read_only(addresses)
 
     def __reduce__(self) -> Tuple[Any, ...]:
-        return WholePatch, (self.rule, self.half_tiles, self._half_addresses, self.halves)
+        halves = self.rule, self.half_tiles, self._half_addresses, self.halves
+        return WholePatch, halves, {"centre": self.centre}
 
     @property
     def half_addresses(self) -> np.ndarray:
@@ -673,7 +687,8 @@ class WholePatch(Patch):
         numbers = numbers.reshape(halves.shape)
         if len(used) and used[0] < 0:
             used, numbers = used[1:], numbers - 1
-        return WholePatch(self.rule, taken(self.half_tiles, used), named(self._half_addresses, used), numbers)
+        addresses = named(self._half_addresses, used)
+        return self._within(WholePatch(self.rule, taken(self.half_tiles, used), addresses, numbers))
 
     @cached_property
     def _outlines(self) -> Tuple[np.ndarray, np.ndarray]:

@@ -704,6 +704,8 @@ class Window(Patch):
         self.machine, self.frame, self.box = machine, frame, box
         found = found or machine.cover(frame, box, addresses=addresses)
         super().__init__(machine.rule, found.tiles, found.addresses)
+        x, y = machine.rule.ring.xy(np.array(box.at)).tolist()
+        self.centre = x, y
 
     def __repr__(self) -> str:
         return f"<Window {self.machine.name}: {len(self)} tiles, half={self.box.half}>"
@@ -716,7 +718,7 @@ class Window(Patch):
         """The whole tiles of the window's tiles, by the engine's `glue=yes`: halves are joined, also with
         halves outside the window. If the rule glues none, these are the tiles themselves."""
         found = self.machine.cover(self.frame, self.box, True, self._addresses is not None)
-        return whole_patch(self.rule, found.tiles, found.addresses, found.whole)
+        return self._within(whole_patch(self.rule, found.tiles, found.addresses, found.whole))
 
     def listing(self, whole: bool = False) -> str:
         """The text of `draw layers=list`, byte for byte.

@@ -2,6 +2,7 @@
 import io
 import json
 import math
+import pickle
 import xml.etree.ElementTree as ElementTree
 
 import numpy as np
@@ -51,6 +52,20 @@ def test_a_patch_is_a_sequence_of_tiles(patches):
                 patch[wrong]
     bare = patches[0].rule
     assert [it.address for it in Patch(bare, patches[0].tiles, None)] == [None] * len(patches[0])
+
+
+def test_a_board_grows_from_where_the_window_is(tiling):
+    t = tiling("p3")
+    window = t.window(at=(100, 0, 0, 0), half=(8, 7))
+    assert window.centre == (100.0, 0.0) and t.window().centre == (0.0, 0.0)
+    whole = window.whole()
+    for patch in (window, whole, window[2:], whole[1:], pickle.loads(pickle.dumps(whole))):
+        assert patch.centre == window.centre
+        board = patch.connected(12)
+        assert abs(board.middles() - window.centre).max() < 4
+        assert (board.shifts == patch.connected(12, (100.0, 0.0)).shifts).all()
+    with pytest.raises(ValueError, match="connected"):
+        window.connected(400)
 
 
 def test_what_is_printed(tiling):
