@@ -82,8 +82,9 @@ make_launcher() {
 make_help() {
     sed -e '/^docs\/FORMATS.md has/,$d; /^  \.\/tiling --build/d' \
         -e '/^  \.\/tiling --help, --version/i\
-  tiling board|poster|explore|atlas --help           a board as data, a page to print or cut, a page in the\
-                                                     browser, a page about a rule; they need Python and numpy' \
+  tiling board|poster|explore|atlas|rules --help     a board as data, a page to print or cut, a page in the\
+                                                     browser, a page about a rule, the rules; they need Python\
+                                                     and numpy' \
         -e 's,^  \./tiling\(.*\)   \( *[a-z].*\)$,  tiling\1     \2,; s,\./tiling,tiling,g' \
         -e "s,< rules/,< $share/rules/,; s,the script could not,tiling could not," "$top/docs/HELP.txt"
     cat << END

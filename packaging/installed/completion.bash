@@ -35,6 +35,7 @@ _tiling_options() {
     poster) echo "--size --tile --by --colours --line --joined --cut --star --jobs --halves --to $frame" ;;
     explore) echo '--at --seed --addr --print --help' ;;
     atlas) echo "$frame" ;;
+    rules) echo '--help' ;;
     esac
 }
 
@@ -44,11 +45,16 @@ _tiling() {
     compopt -o nospace 2> /dev/null
     if [ "$COMP_CWORD" -eq 1 ]; then
         compopt +o nospace 2> /dev/null
-        COMPREPLY=($(compgen -W 'place neighbour walk draw check calc drill star verify board poster explore atlas
+        COMPREPLY=($(compgen -W 'place neighbour walk draw check calc drill star verify board poster explore atlas rules
             --help --version' -- "$word"))
         return
     fi
     case $command in
+    rules)
+        compopt +o nospace 2> /dev/null
+        COMPREPLY=($(compgen -W "$(_tiling_options rules)" -- "$word"))
+        return
+        ;;
     board | poster | explore | atlas)
         compopt +o nospace -o filenames 2> /dev/null
         case $before in

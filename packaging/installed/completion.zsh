@@ -11,14 +11,15 @@ _tiling() {
     local frame='--at --seed --addr --out --help'
     options=(board "--tiles --half --shape --halves --by --to $frame"
         poster "--size --tile --by --colours --line --joined --cut --star --jobs --halves --to $frame"
-        explore '--at --seed --addr --print --help' atlas $frame)
+        explore '--at --seed --addr --print --help' atlas $frame rules --help)
     local -a names=(
         'place:where a tile lies' 'neighbour:the tile across an edge' 'walk:the tiles along a path of edges'
         'draw:the tiles of a window' 'check:whether a rule is accepted' 'calc:a script of questions'
         'drill:pseudorandom windows, for testing' 'star:the tiles around a vertex'
         'verify:checks a list of the tiles of a window' 'board:a patch as data'
         'poster:a page in millimetres, in colours or to be cut' 'explore:a page in the browser to pan and zoom'
-        'atlas:a page about a rule' '--help:all arguments on one screen' '--version:what is installed')
+        'atlas:a page about a rule' 'rules:the rules that there are'
+        '--help:all arguments on one screen' '--version:what is installed')
     if ((CURRENT == 2)); then
         _describe 'command' names
         return
@@ -30,7 +31,7 @@ _tiling() {
         --by) compadd kind turn neighbours; [[ $command == board ]] && compadd child || compadd star ring ;;
         --shape) compadd round rectangle nearest ;;
         *)
-            if [[ $PREFIX == -* ]]; then compadd -- ${=options[$command]}; else
+            if [[ $PREFIX == -* || $command == rules ]]; then compadd -- ${=options[$command]}; else
                 ((CURRENT > 3)) || compadd p2 p3 ab chair halfhex
                 _files
             fi

@@ -2,7 +2,7 @@
  *
  *   tiling, tiling --help, -h, help      prints the help
  *   tiling --version                     prints what is installed
- *   tiling board|poster|explore|atlas    runs the command of the Python package
+ *   tiling board|poster|explore|atlas|rules  runs the command of the Python package
  *   tiling WORDS                         is the proved program itself: it takes the place of this one, with the
  *                                        same words, streams and exit status
  *
@@ -90,7 +90,7 @@ static int is_one_of(const char *word, const char *const *words) {
 
 int main(int count, char **words) {
     static const char *const help[] = {"--help", "-h", "help", NULL};
-    static const char *const commands[] = {"board", "poster", "explore", "atlas", NULL};
+    static const char *const commands[] = {"board", "poster", "explore", "atlas", "rules", NULL};
     if (count < 2 || (count == 2 && is_one_of(words[1], help))) return show(SHARE "/HELP.txt");
     if (count == 2 && !strcmp(words[1], "--version")) return show(SHARE "/VERSION");
     if (is_one_of(words[1], commands)) return run_python(count, words);

@@ -2,7 +2,7 @@
 # The installed command `tiling` where there is no C compiler to make it of launcher.c, which says what it does.
 # packaging/install.sh puts the paths for the names between @.
 case ${1-} in
-board | poster | explore | atlas)
+board | poster | explore | atlas | rules)
     export PYTHONPATH="@PACKAGES@${PYTHONPATH:+:$PYTHONPATH}" TILING_COMMAND=tiling
     export TILING_PROGRAM="${TILING_PROGRAM:-@PROGRAM@}"
     exec @PYTHON@ -m pagnetuf "$@"

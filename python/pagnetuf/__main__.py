@@ -1,4 +1,4 @@
-"""The commands `pagnetuf board|poster|explore|atlas ..`; each answers --help."""
+"""The commands `pagnetuf board|poster|explore|atlas|rules ..`; each answers --help."""
 from .commands.command_line import main
 
 main()

@@ -106,6 +106,25 @@ def real_array(name: str, values: Any) -> np.ndarray:
     return found.astype(float, copy=False)
 
 
+def tile_colours(name: str, colours: Any, count: int) -> Tuple[str, ...]:
+    """A colour for each of `count` tiles, as texts: texts, or rows of red, green and blue, from 0 to 1, or to
+    255 as uint8. The rows of a colour map have a fourth number, which is the greatest for what is opaque."""
+    found = listed(name, colours)
+    if len(found) != count:
+        raise ValueError(f"{name} has a colour for each of {count} tiles, and not {len(found)}")
+    if not count or isinstance(found[0], str):
+        return colour_texts(f"the colours in {name}", found) or ()
+    rows = real_array(name, found)
+    rows = rows / 255 if np.asarray(found).dtype == np.uint8 else rows
+    if rows.ndim != 2 or rows.shape[1] not in (3, 4):
+        raise ValueError(f"{name} has rows of red, green and blue, and not the shape {rows.shape}")
+    if not ((rows >= 0) & (rows <= 1)).all():
+        raise ValueError(f"{name} has numbers from 0 to 1, or to 255 as uint8")
+    if (rows[:, 3:] != 1).any():
+        raise ValueError(f"{name} has opaque colours alone")
+    return tuple("#" + bytes(row).hex() for row in np.round(rows[:, :3] * 255).astype(np.uint8).tolist())
+
+
 def numbers_of_tiles(name: str, tiles: Any, count: int) -> np.ndarray:
     """Which of `count` tiles: numbers, a mask, a slice or one number, as int64 (k,). IndexError where there
     is no such tile."""

@@ -1,6 +1,8 @@
 """The names of colours in CSS (W3C, CSS Color Module Level 4, section 6.1)."""
 from __future__ import annotations
 
+import re
+
 NAMES = frozenset(
     """
     aliceblue antiquewhite aqua aquamarine azure beige bisque black blanchedalmond blue blueviolet brown
@@ -20,3 +22,8 @@ NAMES = frozenset(
     tomato turquoise violet wheat white whitesmoke yellow yellowgreen
     """.split()
 )
+
+
+def is_colour(text: str) -> bool:
+    """Whether a text is #rrggbb, #rgb or the name of a colour."""
+    return bool(re.fullmatch(r"#(?:[0-9A-Fa-f]{3}){1,2}", text)) or text.lower() in NAMES

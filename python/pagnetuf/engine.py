@@ -27,6 +27,8 @@ TILE = np.dtype(
 )
 ADDRESS = np.dtype([("kind", "u1"), ("depth", "u1"), ("digits", "u1", (64, 2))])
 MOST_TILES = 200_000
+MOST_HALF = 4096  # of a window's half-width and half-height
+FARTHEST = 1 << 20  # of a coefficient of a window's centre
 NO_EDGE = 255  # where there is no edge, such as that back from the base of a walk
 BUILT_IN = ("chair", "p2", "p3", "ab", "halfhex")
 Motion = Tuple[int, int, Point]  # kind, turn, shift

@@ -4,12 +4,15 @@ from __future__ import annotations
 
 import importlib
 import json
-from typing import TYPE_CHECKING, Any, Dict, List, Optional, Union
+import zipfile
+import zlib
+from typing import TYPE_CHECKING, Any, Dict, List, Mapping, Optional, Tuple, Union
 
 import numpy as np
 
-from .arguments import real_array
+from .arguments import floats, real_array
 from .engine import ADDRESS, TILE
+from .geometry import unique_points
 from .patch import Patch, WholePatch, whole_patch
 from .rule import Rule
 from .texts import parsed_lines
@@ -140,26 +143,67 @@ def patch_of_listing(rule: Rule, text: Union[str, bytes]) -> Patch:
     wrong = np.flatnonzero((found.tiles["kind"] >= len(rule.kinds)) | (found.tiles["turn"] >= rule.order))
     if len(wrong):
         raise ValueError(f"tile {wrong[0] + 1} of the list has a kind or a turn that the rule has not")
-    if b" + " not in data:
-        return Patch(rule, found.tiles, found.addresses)
-    return whole_patch(rule, found.tiles, found.addresses, found.whole)
+    patch = (
+        whole_patch(rule, found.tiles, found.addresses, found.whole)
+        if b" + " in data
+        else Patch(rule, found.tiles, found.addresses)
+    )
+    refuse_overlaps(patch)
+    return patch
+
+
+def refuse_overlaps(patch: Patch) -> None:
+    """ValueError with two tiles that are the same, or lie on the same side of an edge."""
+    spots = unique_points(patch.shifts.astype(np.int64))[1]
+    same = first_alike((spots * 256 + patch.kinds) * 256 + patch.turns)
+    if same:
+        raise ValueError(f"tiles {same[0] + 1} and {same[1] + 1} of the list are the same")
+    start, end = patch.corners().astype(np.int64), patch._next
+    tiles, edges = np.nonzero(start >= 0)
+    alike = first_alike((start * len(patch.vertices()) + end)[tiles, edges])
+    if alike:
+        raise ValueError(f"tiles {tiles[alike[0]] + 1} and {tiles[alike[1]] + 1} of the list overlap")
+
+
+def first_alike(keys: np.ndarray) -> Optional[Tuple[int, int]]:
+    """The places of two numbers that are alike: the earliest second one, behind the first of it. Or None."""
+    _, first, numbers = np.unique(keys, return_index=True, return_inverse=True)
+    firsts = first[numbers.reshape(-1)]
+    again = np.flatnonzero(firsts != np.arange(len(keys)))
+    return (int(firsts[again[0]]), int(again[0])) if len(again) else None
 
 
 def write_npz(patch: Patch, path: Any, **more: Any) -> None:
     """Writes the arrays of a patch, and more of them, into a file of numpy."""
     from .board import arrays
 
-    np.savez_compressed(path, **arrays(patch), **more)
+    found = {**arrays(patch), "centre": np.array(patch.centre), **more}
+    if hasattr(path, "write"):
+        np.savez_compressed(path, **found)
+        return
+    with open(path, "wb") as file:  # (numpy would add .npz to a name without it)
+        np.savez_compressed(file, **found)
 
 
 def read_npz(path: Any) -> Patch:
     """See `Patch.from_npz`."""
-    with np.load(path, allow_pickle=False) as file:
-        if "rule" not in file or "half_tiles" not in file:
-            raise ValueError(f"{path} isn't a file that Patch.to_npz wrote")
-        rule = Rule.from_text(str(file["rule"]))
-        tiles = np.ascontiguousarray(file["half_tiles"]).view(TILE).reshape(-1)
-        addresses = file["half_addresses"].view(ADDRESS).reshape(-1) if "half_addresses" in file else None
-        if "halves" in file:
-            return WholePatch(rule, tiles, addresses, file["halves"])
-        return Patch(rule, tiles, addresses)
+    try:
+        file = np.load(path, allow_pickle=False)
+        if isinstance(file, np.lib.npyio.NpzFile):
+            with file:
+                return patch_of_arrays(file)
+        raise ValueError("it is no archive of arrays")
+    except (ValueError, KeyError, EOFError, zipfile.BadZipFile, zlib.error) as fault:
+        raise ValueError(f"{path} isn't a file that Patch.to_npz wrote") from fault
+
+
+def patch_of_arrays(file: Mapping[str, Any]) -> Patch:
+    """The patch of the arrays that `write_npz` wrote. A file of an earlier version has no `centre`."""
+    rule = Rule.from_text(str(file["rule"]))
+    tiles = np.ascontiguousarray(file["half_tiles"]).view(TILE).reshape(-1)
+    addresses = file["half_addresses"].view(ADDRESS).reshape(-1) if "half_addresses" in file else None
+    is_whole = "halves" in file
+    patch = WholePatch(rule, tiles, addresses, file["halves"]) if is_whole else Patch(rule, tiles, addresses)
+    if "centre" in file:
+        patch.centre = floats("centre", file["centre"].tolist())
+    return patch

@@ -65,6 +65,11 @@ class Patch:
     A patch that was asked for without addresses has none: they and their texts are a ValueError. `centre` is
     the point, in lengths, from which `connected` grows: the `at` of the window from which the tiles are, or
     0, 0.
+
+    Two patches are equal, by `==`, if the rule, the tiles in their order, their addresses (or that there are
+    none) and the centre are. So a window equals the patch that `from_npz` reads again. Its seed and its box
+    don't count. Whole tiles equal whole tiles alone. Equal patches have one hash, so that a patch can be a
+    key.
     """
 
     centre: Tuple[float, float] = (0.0, 0.0)
@@ -96,6 +101,25 @@ class Patch:
 
     def __len__(self) -> int:
         return len(self.tiles)
+
+    def __eq__(self, other: object) -> bool:
+        """Whether the rule, the tiles in their order, their addresses and the centre are equal."""
+        if self is other:
+            return True
+        if not isinstance(other, Patch):
+            return NotImplemented
+        mine, theirs = self._compared(), other._compared()
+        if self.centre != other.centre or [*mine] != [*theirs] or self.rule != other.rule:
+            return False
+        return all(np.array_equal(mine[name], theirs[name]) for name in mine)
+
+    def __hash__(self) -> int:
+        return hash((self.kinds.tobytes(), self.turns.tobytes(), self.shifts.tobytes()))
+
+    def _compared(self) -> Dict[str, np.ndarray]:
+        """What two equal patches have alike, by names."""
+        found = {"kinds": self.kinds, "turns": self.turns, "shifts": self.shifts}
+        return found if self._addresses is None else {**found, "addresses": used_bytes(self._addresses)}
 
     def __repr__(self) -> str:
         return f"<{type(self).__name__}: {len(self)} tiles>"
@@ -276,16 +300,18 @@ class Patch:
         return frozen(rows[mine < theirs].astype(np.int32))
 
     def edges(self) -> np.ndarray:
-        """Each edge exactly once, as two vertex numbers, the lesser first: int32 (E, 2), sorted."""
+        """Each edge exactly once, as two vertex numbers, the lesser first: int32 (E, 2), sorted. In a patch
+        of halves the cuts between them are edges too."""
         start, end = self.corners().ravel(), self._next.ravel()
         pairs = np.sort(np.stack([start, end], 1)[start >= 0], 1).astype(np.int64)
         keys = np.unique(pairs[:, 0] * len(self.vertices()) + pairs[:, 1])
         return frozen(np.stack(np.divmod(keys, max(1, len(self.vertices()))), 1).astype(np.int32))
 
     def rim(self) -> List[np.ndarray]:
-        """The boundary as closed lines: int32 (k,) each, the numbers of its vertices. The patch is to their
-        left, so that a line around it goes counterclockwise, and one around a hole clockwise. At a vertex
-        where tiles only touch, the line turns back along the same tiles."""
+        """The boundary as closed lines: int32 (k,) each, the numbers of its vertices, without the first once
+        more at the end. The patch is to their left, so that a line around it goes counterclockwise, and one
+        around a hole clockwise. At a vertex where tiles only touch, the line turns back along the same
+        tiles."""
         most, corners, counts = self.outlines().shape[1], self.corners().ravel(), self.counts.tolist()
         across = self._across
         waiting = dict.fromkeys(np.flatnonzero((across < 0) & (corners >= 0)).tolist())
@@ -387,7 +413,7 @@ class Patch:
 
     def structure_factor(self, waves: np.ndarray, radius: Optional[float] = None) -> np.ndarray:
         """S(k) of the vertices: the squared absolute value of the sum of w exp(i k r), divided by the sum of
-        w squared.
+        w squared. There is no 2 pi in the exponent.
 
         Parameters
         ----------
@@ -445,6 +471,10 @@ class Patch:
     def adjacency_matrix(self, kind: str = "tiles") -> "scipy.sparse.csr_matrix":
         """The symmetric matrix with a 1 for each pair of tiles that share an edge, or of vertices that are
         its ends.
+
+        Where tiles come in halves, call `whole()` before: the cuts between halves are edges too. The matrix
+        of vertices has many states of energy 0. So scipy's eigsh needs a sigma such as 1e-3 to find levels
+        near 0, as the matrix itself is singular.
 
         Parameters
         ----------
@@ -505,12 +535,12 @@ class Patch:
     def to_npz(self, path: Any) -> None:
         """Writes the patch into a file of numpy, from which `from_npz` reads it.
 
-        The file has the rule, and all that the board of board.schema.json has.
+        The file has the rule, the centre, and all that the board of board.schema.json has.
 
         Parameters
         ----------
-        path : path
-            The file.
+        path : path or binary file
+            The file. A name is taken as it is: no `.npz` is added.
         """
         from .exports import write_npz
 
@@ -522,16 +552,19 @@ class Patch:
 
         Parameters
         ----------
-        path : path
-            The file.
+        path : path or binary file
+            The file, by the name that `to_npz` was given.
 
         Returns
         -------
         Patch
-            The patch, with its rule.
+            The patch, with its rule, equal to the one that was written. Its centre is 0, 0 where the file
+            is of a version that kept none.
 
         Raises
         ------
+        OSError
+            The file cannot be read.
         ValueError
             It is another file.
         """
@@ -558,7 +591,8 @@ class Patch:
         Raises
         ------
         ValueError
-            A line has another form, or a kind or turn that the rule has not.
+            A line has another form, or a kind or turn that the rule has not; a tile is there twice, or two
+            tiles lie on the same side of an edge. Not all that overlap do.
         """
         from .exports import patch_of_listing
 
@@ -570,6 +604,7 @@ class Patch:
         colours: Optional[Sequence[str]] = None,
         ids: bool = False,
         by: Optional[str] = None,
+        each: Optional[Any] = None,
     ) -> str:
         """A picture as SVG: a polygon of the classes `tile`, kK and tT for each tile.
 
@@ -578,12 +613,17 @@ class Patch:
         width : int
             Its width in pixels.
         colours : sequence of str, optional
-            Such as "#0b3954" or "red", in order, and again from the first where there are more classes.
+            Such as "#0b3954" or "red", in order, and again from the first where there are more classes. By
+            "neighbours" there are enough: three for Penrose's and Ammann-Beenker's tiles, else four.
         ids : bool
             Whether each tile has its number, address and neighbours.
         by : {"kind", "turn", "child", "neighbours"}, optional
             What a colour stands for. By "neighbours", no two tiles with a common edge are alike. By default
             the kind if there are colours, and else the first of kind, turn and child that tells tiles apart.
+        each : sequence of n str, float (n, 3) or (n, 4), or uint8 (n, 3), optional
+            The colour of each tile, for any measure of yours, such as the distance of `middles` from a point:
+            texts, or red, green and blue, from 0 to 1, or to 255 as uint8. What a colour map of matplotlib
+            returns is taken. It stands in place of `colours` and `by`.
 
         Returns
         -------
@@ -594,10 +634,14 @@ class Patch:
         ------
         TypeError
             The colours are not texts in a sequence.
+        ValueError
+            One is no colour, they are too few for `by`, or `each` has not one colour for each tile, or
+            `colours` has.
         """
-        from .picture import svg_of
+        from .picture import own_colours, svg_of
 
-        return svg_of(self, width, colour_texts("colours", colours), ids, by)
+        texts = colour_texts("colours", colours)
+        return svg_of(self, width, texts, ids, by, own_colours(self, each, texts))
 
     def _repr_svg_(self) -> Optional[str]:
         """What a notebook shows, up to 5,000 tiles."""
@@ -608,18 +652,21 @@ class Patch:
         ax: Optional["matplotlib.axes.Axes"] = None,
         by: Optional[str] = "kind",
         colours: Optional[Sequence[str]] = None,
+        each: Optional[Any] = None,
         **look: Any,
     ) -> "matplotlib.axes.Axes":
-        """Draws the tiles on axes of matplotlib.
+        """Draws the tiles on axes of matplotlib, all lengths alike.
 
         Parameters
         ----------
         ax : Axes, optional
-            Those of a new figure by default.
-        by, colours
-            As for `to_svg`.
+            By default those of a new figure, without ticks and frame. `.figure.savefig(path)` writes it.
+        by, colours, each
+            As for `to_svg`, and all colours of matplotlib. A colour for each tile by its distance from 0, 0:
+            `each=matplotlib.colormaps["viridis"](numpy.hypot(*patch.middles().T) / 20)`.
         **look
-            What PolyCollection takes, such as linewidths=0.2.
+            What PolyCollection takes, such as linewidths=0.2. Without lines, as by linewidths=0, tiles have
+            thin edges of their own colours, so that no seams show.
 
         Returns
         -------
@@ -630,10 +677,15 @@ class Patch:
         ------
         ImportError
             matplotlib is not installed.
+        TypeError
+            The colours are not texts in a sequence.
+        ValueError
+            One is no colour, or they are too few for `by`.
         """
-        from .picture import plotted
+        from .picture import own_colours, plotted
 
-        return plotted(self, ax, by, colour_texts("colours", colours), look)
+        texts = colour_texts("colours", colours)
+        return plotted(self, ax, by, texts, own_colours(self, each, texts), look)
 
 
 class WholePatch(Patch):
@@ -649,6 +701,13 @@ class WholePatch(Patch):
     def __reduce__(self) -> Tuple[Any, ...]:
         halves = self.rule, self.half_tiles, self._half_addresses, self.halves
         return WholePatch, halves, {"centre": self.centre}
+
+    def _compared(self) -> Dict[str, np.ndarray]:
+        is_double = self.halves[:, 1] >= 0
+        seconds = self.halves[is_double, 1]
+        others = Patch(self.rule, taken(self.half_tiles, seconds), named(self._half_addresses, seconds))
+        found = {f"second {name}": values for name, values in others._compared().items()}
+        return {**super()._compared(), "is_double": is_double, **found}
 
     @property
     def half_addresses(self) -> np.ndarray:
@@ -724,6 +783,13 @@ def _edge_after(edge: int, most: int, counts: List[int]) -> int:
 def read_only(array: np.ndarray) -> np.ndarray:
     """A view that can't be written, so that what was made of it before stays right."""
     return frozen(array.view())
+
+
+def used_bytes(addresses: np.ndarray) -> np.ndarray:
+    """Kind, depth and the digits of each address as uint8 (n, 130), with 0 after the last digit."""
+    digits = addresses["digits"] * (np.arange(64)[:, None] < addresses["depth"][:, None, None])
+    heads = np.stack([addresses["kind"], addresses["depth"]], 1)
+    return np.concatenate([heads, digits.reshape(len(addresses), 128)], 1)
 
 
 def named(addresses: Optional[np.ndarray], tiles: np.ndarray) -> Optional[np.ndarray]:

@@ -2,11 +2,12 @@
 from __future__ import annotations
 
 from functools import lru_cache
-from typing import TYPE_CHECKING, Any, Dict, Iterator, List, Optional, Sequence, Set, Tuple
+from typing import TYPE_CHECKING, Any, Callable, Dict, Iterator, List, Optional, Sequence, Set, Tuple
 
 import numpy as np
 
-from .arguments import one_of
+from .arguments import one_of, tile_colours
+from .colour_names import is_colour
 from .colouring import proper_colouring
 from .rule import Rule
 from .svg import corner_text, escaped, root
@@ -23,6 +24,9 @@ PALETTES = {
     "ink": ("#111111", "#555555", "#999999", "#cccccc", "#f5f5f5"),
 }
 COLOURS_BY = ("kind", "turn", "child", "neighbours")
+MOST_CLASSES = 16  # kinds, and more than turns
+EDGE_NAMES, WIDTH_NAMES = ("edgecolors", "edgecolor", "ec"), ("linewidths", "linewidth", "lw")
+SEAM = 0.5  # the width of an edge in points that covers a seam
 
 # by kind; so many that the sixteen kinds of a rule are all different
 COLOURS = (
@@ -121,16 +125,25 @@ def fills_of(
     patch: "Patch", colours: Optional[Sequence[str]], by: Optional[str]
 ) -> Tuple[str, np.ndarray, Dict[int, str]]:
     """What the colours are by, the class of each tile, and the colour of each class that occurs. Given
-    colours are by kind, unless `by` says otherwise."""
+    colours are by kind, unless `by` says otherwise. ValueError if neighbours would be alike."""
     own = colours_of(patch.rule, hasattr(patch, "halves"))
     usual = "turn" if own.usual == "child" and not patch.has_addresses else own.usual
     by = one_of("by", by or ("kind" if colours else usual), COLOURS_BY)
     classes = classes_by(patch, by)
     found = np.unique(classes).tolist()
     if colours:
+        if by == "neighbours" and len(set(colours[: len(found)])) < len(found):
+            raise ValueError(f"by neighbours needs {len(found)} different colours, and not {list(colours)!r}")
         return by, classes, {name: colours[i % len(colours)] for i, name in enumerate(found)}
     known = own.by.get(by, COLOURS)
     return by, classes, {name: known[name % len(known)] for name in found}
+
+
+def refuse_others(colours: Optional[Sequence[str]], is_known: Callable[[str], bool]) -> None:
+    """ValueError with the first that is no colour."""
+    for colour in colours or ():
+        if not is_known(colour):
+            raise ValueError(f"each of colours is such as '#0b3954' or 'navy', and not {colour!r}")
 
 
 def svg_of(
@@ -139,14 +152,16 @@ def svg_of(
     colours: Optional[Sequence[str]] = None,
     ids: bool = False,
     by: Optional[str] = None,
+    each: Optional[Sequence[str]] = None,
 ) -> str:
     """See `Patch.to_svg`."""
+    refuse_others(colours, is_colour)
     xy = patch.xy() * (1, -1)
     low, high = np.zeros(2), np.ones(2)
     if len(patch):
         low, high = np.nanmin(xy, (0, 1)) - 0.1, np.nanmax(xy, (0, 1)) + 0.1
     tall = round(width * float((high - low)[1] / (high - low)[0]))
-    by, classes, fills = fills_of(patch, colours, by)
+    by, classes, fills = fills_of(patch, colours, by) if each is None else ("each", patch.kinds, {})
     extra = classes.tolist() if by in ("child", "neighbours") else None
     version = "" if ids else "1.1"  # (attributes such as data-near are of SVG 2)
     out = [
@@ -155,19 +170,26 @@ def svg_of(
         *(f".{by[0]}{name}{{fill:{escaped(colour)}}}" for name, colour in fills.items()),
         "</style>",
     ]
-    return "\n".join([*out, *polygon_elements(patch, xy, ids, by[0], extra), "</svg>", ""])
+    return "\n".join([*out, *polygon_elements(patch, xy, ids, by[0], extra, each), "</svg>", ""])
 
 
 def polygon_elements(
-    patch: "Patch", xy: np.ndarray, ids: bool, letter: str = "", extra: Optional[List[int]] = None
+    patch: "Patch",
+    xy: np.ndarray,
+    ids: bool,
+    letter: str = "",
+    extra: Optional[List[int]] = None,
+    each: Optional[Sequence[str]] = None,
 ) -> Iterator[str]:
-    """The polygon of each tile; with `extra` also of a class of this letter and that number."""
+    """The polygon of each tile; with `extra` also of a class of this letter and that number, and with `each`
+    of a colour of its own."""
     near = patch.neighbours().tolist() if ids else []
     addresses = patch.address_texts() if ids else []
     rows = zip(patch.kinds.tolist(), patch.turns.tolist(), xy.tolist(), patch.counts.tolist())
     for tile, (kind, turn, corners, count) in enumerate(rows):
         own = "" if extra is None else f" {letter}{extra[tile]}"
-        look = f'class="tile k{kind} t{turn}{own}" points="{corner_text(corners[:count])}"'
+        fill = "" if each is None else f' fill="{escaped(each[tile])}"'
+        look = f'class="tile k{kind} t{turn}{own}"{fill} points="{corner_text(corners[:count])}"'
         if not ids:
             yield f"<polygon {look}/>"
             continue
@@ -176,19 +198,52 @@ def polygon_elements(
         yield f"<polygon {name} {look}><title>{addresses[tile]}</title></polygon>"
 
 
+def own_colours(patch: "Patch", each: Any, colours: Optional[Sequence[str]]) -> Optional[Sequence[str]]:
+    """The colour of each tile, or None where the colours are by class. So many colours of classes as there
+    are tiles, and more than a rule has classes, are meant for tiles."""
+    if each is None:
+        if colours is not None and len(colours) == len(patch) > MOST_CLASSES:
+            raise ValueError(f"colours are those of classes; each= takes one for each of {len(patch)} tiles")
+        return None
+    if colours is not None:
+        raise ValueError("each has the colours of the tiles: leave out colours")
+    return tile_colours("each", each, len(patch))
+
+
 def plotted(
-    patch: "Patch", ax: Any, by: Optional[str], colours: Optional[Sequence[str]], look: Dict[str, Any]
+    patch: "Patch",
+    ax: Any,
+    by: Optional[str],
+    colours: Optional[Sequence[str]],
+    each: Optional[Sequence[str]],
+    look: Dict[str, Any],
 ) -> Any:
     """See `Patch.plot`."""
     from .exports import needed
 
     collections = needed("matplotlib.collections", "matplotlib")
+    refuse_others(colours, needed("matplotlib.colors", "matplotlib").is_color_like)
+    if each is None:
+        _, classes, fills = fills_of(patch, colours, by)
+        each = [fills[name] for name in classes.tolist()]
     if ax is None:
         _, ax = needed("matplotlib.pyplot", "matplotlib").subplots()
-    _, classes, fills = fills_of(patch, colours, by)
-    look = {"edgecolors": "#222222", "linewidths": 0.5, **look}
-    look.setdefault("facecolors", [fills[name] for name in classes.tolist()])
+        ax.set_axis_off()
+    look = {"edgecolors": "#222222", "linewidths": 0.5, "facecolors": each, **without_seams(look)}
     ax.add_collection(collections.PolyCollection(patch.polygons(), **look))
     ax.set_aspect("equal")
     ax.autoscale_view()
     return ax
+
+
+def without_seams(look: Dict[str, Any]) -> Dict[str, Any]:
+    """What PolyCollection takes, with a thin edge of a tile's own colour where no line is wanted: without one
+    what is behind shows between two tiles. Where tiles are translucent, it would show itself."""
+    edges = [look.get(name) for name in EDGE_NAMES]
+    widths = [look.get(name) for name in WIDTH_NAMES]
+    has_none = any(isinstance(it, str) and it.lower() == "none" for it in edges)
+    has_no_width = any(np.ndim(it) == 0 and it == 0 for it in widths if it is not None)
+    if look.get("alpha") is not None or not (has_none or has_no_width):
+        return look
+    others = {name: it for name, it in look.items() if name not in (*EDGE_NAMES, *WIDTH_NAMES)}
+    return {**others, "edgecolors": "face", "linewidths": SEAM}

@@ -61,6 +61,13 @@ def rule_path(name: str) -> Optional[str]:
     return path if re.fullmatch(r"[a-z0-9_]{1,60}", name) and os.path.exists(path) else None
 
 
+def rule_names() -> List[str]:
+    """The names of the package's rule files, sorted."""
+    folder = rules_path()
+    found = os.listdir(folder) if os.path.isdir(folder) else []
+    return sorted(name[:-5] for name in found if name.endswith(".toml"))
+
+
 def page_path() -> Optional[str]:
     """The page to pan and zoom: next to the package's files, in a checkout, or the installed one."""
     installed = os.path.join(PREFIX, "share", "doc", "tiling", "docs", "explore.html")

@@ -3,8 +3,8 @@ as `status`.
 
 docs/FORMATS.md, "Notes and exit codes", says what each means. `fields` are the fields after the name, as
 texts. `str()` is a sentence, with the whole line of the program behind it. A refusal is also the exception of
-Python that it is by its kind: a BadAddress is a ValueError, a NoEdge is an IndexError, and NoMemory is a
-MemoryError."""
+Python that it is by its kind: a BadAddress and a TooManyTiles are each a ValueError, a NoEdge is an
+IndexError, and NoMemory is a MemoryError."""
 from __future__ import annotations
 
 from typing import Dict, Tuple, Type
@@ -34,8 +34,14 @@ class Refusal(Exception):
         """A field, or another text where the refusal has none."""
         return self.fields[spot] if spot < len(self.fields) else missing
 
+    @property
+    def own_sentence(self) -> str:
+        """The field of a refusal by the package itself, which is a sentence; nothing for one of the
+        engine."""
+        return self.field(0) if len(self.fields) == 1 and " " in self.field(0) else ""
+
     def __str__(self) -> str:
-        return f"{self.sentence} ({self.line})"
+        return self.own_sentence or f"{self.sentence} ({self.line})"
 
     def __reduce__(self):
         return type(self), self.fields
@@ -48,17 +54,9 @@ class BadWords(Refusal, ValueError):
     status = 2
 
     @property
-    def has_sentence(self) -> bool:
-        return bool(self.fields) and not self.field(0).isdigit()
-
-    @property
     def sentence(self) -> str:
-        if self.has_sentence:
-            return self.field(0)
-        return "a number is out of range: at: four up to 2^20, half: two from 1 to 4096, seed: below 2^64"
-
-    def __str__(self) -> str:
-        return self.sentence if self.has_sentence else super().__str__()
+        told = "a number is out of range: at: four up to 2^20, half: two from 1 to 4096, seed: below 2^64"
+        return self.own_sentence or told
 
 
 class RuleTooLong(Refusal, ValueError):
@@ -113,7 +111,7 @@ class BadAddress(Refusal, ValueError):
         return f"{told}; an address is KIND:CHILD/PARENT,.. from fine to coarse, such as 0:1/0,2/0"
 
 
-class DepthLimit(Refusal):
+class DepthLimit(Refusal, ValueError):
     """At depth 64, an edge that must be crossed is still on the boundary."""
 
     status = 5
@@ -123,7 +121,7 @@ class DepthLimit(Refusal):
         return "at depth 64, an edge that must be crossed is still on the boundary: use another seed"
 
 
-class CoordLimit(Refusal):
+class CoordLimit(Refusal, ValueError):
     """A coefficient is above 2^24 in absolute value."""
 
     status = 6
@@ -133,14 +131,15 @@ class CoordLimit(Refusal):
         return "too far out, with a coefficient above 2^24: use another seed, a nearer point, or fewer digits"
 
 
-class TooManyTiles(Refusal):
+class TooManyTiles(Refusal, ValueError):
     """More than 200,000 tiles meet the window."""
 
     status = 7
 
     @property
     def sentence(self) -> str:
-        return "more than 200,000 tiles meet the window: use a smaller one, or a sheet"
+        told = "more than 200,000 tiles meet the window: use a smaller one, or a sheet"
+        return self.own_sentence or told
 
 
 class Outside(Refusal, IndexError):
@@ -203,7 +202,7 @@ class NoVertex(Refusal, IndexError):
         return f"the tile has no vertex {self.field(0)}; it has {self.field(1)}, counted from 0"
 
 
-class StarTooBig(Refusal):
+class StarTooBig(Refusal, ValueError):
     """More than 64 tiles have the vertex."""
 
     status = 16

@@ -38,6 +38,13 @@ class Rule:
     def __repr__(self) -> str:
         return f"<Rule: order {self.order}, {len(self.kinds)} kinds>"
 
+    def __eq__(self, other: object) -> bool:
+        """Whether all numbers are equal."""
+        return self is other or (isinstance(other, Rule) and self.to_text() == other.to_text())
+
+    def __hash__(self) -> int:
+        return hash(self.to_text())
+
     def to_text(self) -> str:
         """The numbers of the rule as a text of JSON, from which `from_text` makes it again."""
         kinds = [
@@ -127,6 +134,10 @@ class Rule:
     def least_area(self) -> float:
         """The area of the smallest prototile in X and Y."""
         return self._least_area
+
+    def greatest_area(self) -> float:
+        """The area of the largest prototile in X and Y."""
+        return max(abs(self.area(kind)) for kind in self.kinds)
 
     def most_tiles(self, half: Tuple[int, int]) -> int:
         """More tiles than any window of a size has.

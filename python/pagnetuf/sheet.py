@@ -29,10 +29,11 @@ from typing import TYPE_CHECKING, Any, Callable, Iterator, List, Optional, Seque
 import numpy as np
 
 from .arguments import Point
-from .engine import MOST_TILES, Box, Frame, raw
+from .engine import FARTHEST, MOST_HALF, MOST_TILES, Box, Frame, raw
 from .patch import Patch, WholePatch
 from .piece import Task
 from .pieces import Pieces
+from .refusals import TooManyTiles
 from .rule import Rule
 
 if TYPE_CHECKING:
@@ -40,7 +41,6 @@ if TYPE_CHECKING:
 
 # up to how many tiles a window has, in a region with up to MANY_TILES, and in a larger one
 USUAL_TILES, LARGER_TILES, MANY_TILES = 50_000, 100_000, 20_000_000
-FARTHEST = 1 << 20  # of a coefficient of a window's centre
 # what added to a point adds 2 to X and leaves Y, and what adds 2 to Y and leaves X
 RIGHT = (1, 0, 0, 0)
 UP = {4: (0, 2, 0, 0), 6: (-1, 2, 0, 0), 8: (0, 1, 0, 1), 10: (-1, 2, -1, 1)}
@@ -76,6 +76,7 @@ class Sheet:
                 raise ValueError(f"a piece has to be at least as large as a tile, whose extent is {extent}")
         self._rights, self._ups = window_middles(self.columns), window_middles(self.rows)
         self._check_reach()
+        self._check_piece(tiling.rule)
 
     def _check_reach(self) -> None:
         """ValueError unless the centre of each window is within the limit; the corners have the greatest."""
@@ -86,6 +87,15 @@ class Sheet:
                     raise ValueError(
                         f"the region reaches beyond coefficients of {FARTHEST}: use a smaller one"
                     )
+
+    def _check_piece(self, rule: Rule) -> None:
+        """TooManyTiles if the largest window is sure to have too many. (Its tiles cover it.)"""
+        wide, high = max(self.columns), max(self.rows)
+        if max(wide, high) > MOST_HALF:
+            raise ValueError(f"piece is at most {MOST_HALF} in each direction, and not {wide, high}")
+        if 4 * wide * high > MOST_TILES * rule.greatest_area():
+            told = f"piece: a window of half={wide, high} has more than {MOST_TILES:,} tiles"
+            raise TooManyTiles(f"{told}; use a smaller piece, or leave it out")
 
     def __len__(self) -> int:
         """How many pieces this part has."""

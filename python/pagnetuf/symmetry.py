@@ -2,18 +2,21 @@
 
 If a turn by 1/m of a full turn keeps a vertex star, tile by tile, it also keeps the inflated star: cutting
 into children goes with each tile. So around the k times inflated vertex the tiling is kept in a circle
-|factor|^k times as large as the star's."""
+|factor|^k times as large as the star's. Each step may bring another star into the centre: of Penrose's
+tilings, two take turns."""
 from __future__ import annotations
 
-from typing import Iterator, List, NamedTuple, Tuple
+from itertools import islice
+from typing import Iterator, List, NamedTuple, Optional, Tuple
 
 import numpy as np
 
 from .arguments import Point
 from .engine import Frame
 from .patch import Patch
+from .stars import Star
 from .texts import address_text
-from .tiling import Tiling
+from .tiling import Tiling, Window
 
 
 class Place(NamedTuple):
@@ -63,7 +66,8 @@ def symmetric_place(
     fold : int
         The turn is by 1/fold.
     which : int
-        The number of the vertex star among those that the turn keeps, the most frequent first.
+        The number of the vertex star in the centre, among those of the window that the turn keeps and that
+        come again when they are inflated, the most frequent first.
     radius : float
         How far it is kept at least, in lengths.
     frame : Frame
@@ -86,7 +90,7 @@ def symmetric_place(
     if fold < 2 or tiling.order % fold:
         raise NoPlace(f"turns of this tiling are by 1/{tiling.order}, so none by 1/{fold} can keep it")
     window = tiling.window(at, half, frame.seed, frame.base)
-    stars = list(kept_stars(window, fold))
+    stars = list(lasting_stars(tiling, frame.seed, window, fold, at))
     if which >= len(stars):
         others = ", ".join(f"1/{other}" for other in folds(window) if other != fold)
         kinds = "kind of vertex star is" if len(stars) == 1 else "kinds of vertex stars are"
@@ -94,26 +98,50 @@ def symmetric_place(
             f"within half={half[0]},{half[1]} of the point, {len(stars) or 'no'} {kinds} kept by a turn by "
             f"1/{fold}" + (f"; some are by {others}" if others else "")
         )
-    vertices = np.flatnonzero(window.star_labels()[1] == stars[which])
-    far = (tiling.ring.xy(window.vertices()[vertices] - np.array(at)) ** 2).sum(1)
-    vertex = vertices[np.argmin(far)]
+    vertex, wanted = nearest_vertex(window, stars[which], at), window.star_labels()[0][stars[which]]
+    for place in inflated(tiling, frame.seed, window, vertex):
+        if place.radius >= radius and star_at(tiling, place) == wanted:
+            return place
+    raise NoPlace(f"no address of 60 digits keeps star {which} within {radius:g} lengths: take a smaller one")
+
+
+def lasting_stars(tiling: Tiling, seed: int, window: Window, fold: int, at: Point) -> Iterator[int]:
+    """Those of `kept_stars` that come again when they are inflated."""
+    names, stars = window.star_labels()[0], list(kept_stars(window, fold))
+    for star in stars:
+        later = islice(inflated(tiling, seed, window, nearest_vertex(window, star, at)), 1, len(stars) + 1)
+        if any(star_at(tiling, place) == names[star] for place in later):
+            yield star
+
+
+def nearest_vertex(window: Window, star: int, at: Point) -> int:
+    """The vertex with a star that is nearest to a point."""
+    vertices = np.flatnonzero(window.star_labels()[1] == star)
+    far = (window.rule.ring.xy(window.vertices()[vertices] - np.array(at)) ** 2).sum(1)
+    return int(vertices[np.argmin(far)])
+
+
+def inflated(tiling: Tiling, seed: int, window: Window, vertex: int) -> Iterator[Place]:
+    """A vertex of a window, and the vertex inflated again and again, until the address has 60 digits: each
+    step goes down to a child there."""
     tile, corner = (int(it[0]) for it in np.nonzero(window.corners() == vertex))
-    return inflated(
-        tiling, frame.seed, address_text(window.addresses[tile]), corner, star_radius(window, vertex), radius
-    )
-
-
-def inflated(tiling: Tiling, seed: int, address: str, vertex: int, reach: float, radius: float) -> Place:
-    """Goes down to a child at the vertex until the circle is large enough, or the address has 60 digits."""
-    kind_text, _, digits_text = address.partition(":")
+    kind_text, _, digits_text = address_text(window.addresses[tile]).partition(":")
     kind, digits = int(kind_text), [digit for digit in digits_text.split(",") if digit]
-    growth = float(np.hypot(*tiling.ring.xy(tiling.rule.factor)))
-    while reach < radius and len(digits) < 60:
-        child, child_kind, vertex = tiling.rule.child_at(kind, vertex)
+    reach, growth = star_radius(window, vertex), float(np.hypot(*tiling.ring.xy(tiling.rule.factor)))
+    while len(digits) <= 60:
+        a, b, c, d = tiling.rule.kinds[kind].vertices[corner].tolist()
+        yield Place(Frame(f"{kind}:" + ",".join(digits), seed), (a, b, c, d), reach)
+        child, child_kind, corner = tiling.rule.child_at(kind, corner)
         digits.insert(0, f"{child}/{kind}")
         kind, reach = child_kind, reach * growth
-    a, b, c, d = tiling.rule.kinds[kind].vertices[vertex].tolist()
-    return Place(Frame(f"{kind}:" + ",".join(digits), seed), (a, b, c, d), reach)
+
+
+def star_at(tiling: Tiling, place: Place) -> Optional[Star]:
+    """The vertex star in the centre of a place."""
+    window = tiling.window(place.at, (1, 1), place.frame.seed, place.frame.base)
+    names, labels = window.star_labels()
+    (label,) = labels[(window.vertices() == np.array(place.at)).all(1)].tolist()
+    return names[label] if label >= 0 else None
 
 
 def star_radius(patch: Patch, vertex: int) -> float:

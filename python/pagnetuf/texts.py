@@ -46,9 +46,9 @@ def parsed_listing(text: bytes, has_number: bool = False) -> Found:
     All addresses of such a text have the same number of digits."""
     line = np.frombuffer(text.replace(b" + ", b"+"), np.uint8)
     ends = np.flatnonzero((line == ord("\n")) | (line == ord("+")))
-    spaces = np.flatnonzero(line == ord(" ")).reshape(len(ends), -1)
     if not len(ends):
         return NO_TILES
+    spaces = np.flatnonzero(line == ord(" ")).reshape(len(ends), -1)
     begins = np.concatenate([[0], ends[:-1] + 1])
     tiles = tiles_of(numbers_of(cut_out(line, begins, spaces[:, 2])).reshape(-1, 6))
     addresses = addresses_of(line, spaces[:, 2] + 1, spaces[:, 3] if has_number else ends)

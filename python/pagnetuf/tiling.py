@@ -29,7 +29,21 @@ from .arguments import (
     text_of,
     whole_array,
 )
-from .engine import ADDRESS, BUILT_IN, NO_EDGE, Addresses, Box, Engine, Found, Frame, Machine, Motion, is_room
+from .engine import (
+    ADDRESS,
+    BUILT_IN,
+    FARTHEST,
+    MOST_HALF,
+    NO_EDGE,
+    Addresses,
+    Box,
+    Engine,
+    Found,
+    Frame,
+    Machine,
+    Motion,
+    is_room,
+)
 from .geometry import Ring
 from .library import usual_engine
 from .patch import Patch, WholePatch, whole_patch
@@ -102,7 +116,9 @@ class Tiling:
 
     The built-in tilings are "chair"; Penrose's kites and darts "p2" and rhombs "p3", and Ammann and Beenker's
     rhombs and squares "ab", each in halves; and "halfhex". The package has rule files of others, such as
-    "sphinx". `Tiling.from_file` takes any rule file.
+    "sphinx". `Tiling.from_file` takes any rule file. The kinds of "p3" are 0 and 1 for halves of thin rhombs,
+    2 and 3 for halves of thick ones; of "p2" 0 and 1 for kites, 2 and 3 for darts; of "ab" 0 for rhombs, 1
+    and 2 for halves of squares. A whole tile has the lesser kind of the two.
 
     An *address* is a text such as "0:1/0,2/0": a tile's kind, and from fine to coarse which child it is of a
     parent of which kind. A *point* is four integers, for a0 + a1 zeta + a2 zeta^2 + a3 zeta^3, where zeta is
@@ -145,10 +161,7 @@ class Tiling:
             with open(path, "rb") as file:
                 self._hold(asked.machine_of(file.read()), name)
         else:
-            raise BadWords(
-                f"{name!r} is no tiling: use {', '.join(BUILT_IN)}, a name of {places.rules_path()}, or "
-                "Tiling.from_file(PATH)"
-            )
+            raise no_tiling(name)
 
     @classmethod
     def from_bytes(cls, data: bytes, name: str = "-", engine: Optional[Engine] = None) -> "Tiling":
@@ -360,7 +373,11 @@ class Tiling:
         """Exactly the tiles that meet a window, each exactly once, by shift, turn and kind.
 
         The window is the points whose X = 2 x and Y = y / sin(360°/order) differ from those of the point
-        `at` by less than `half`: it is half[0] lengths wide, and 2 half[1] sin(360°/order) high.
+        `at` by less than `half`: it is half[0] lengths wide, and 2 half[1] sin(360°/order) high. So x differs
+        by less than half[0] / 2, and y by less than half[1] sin(360°/order), in lengths.
+
+        Penrose's and Ammann and Beenker's tiles come in halves. Where a whole tile is cut, the cut is an edge
+        too, in `edges` and in `adjacency_matrix`. Call `whole()` first for graphs and Hamiltonians.
 
         Parameters
         ----------
@@ -375,7 +392,8 @@ class Tiling:
         addresses : bool
             Without them it takes less time, and a quarter of the memory.
         xy : 2 float, optional
-            In place of `at`, a place in lengths: the centre is then a point of the ring within half a length.
+            In place of `at`, a place in lengths: the centre is then a point of the ring within half a length
+            in x and in y. `Patch.centre` says where it is.
 
         Returns
         -------
@@ -399,7 +417,7 @@ class Tiling:
         >>> len(w), w.vertices().shape
         (760, (419, 4))
         """
-        box = Box(self.centre(at, xy), two_integers("half", half))
+        box = box_of(self.centre(at, xy), half)
         return Window(self.machine, frame_of(addr, seed), box, addresses)
 
     def centre(self, at: Optional[Iterable[int]] = None, xy: Optional[Iterable[float]] = None) -> Point:
@@ -613,7 +631,7 @@ class Tiling:
         """
         from .listings import judged, verified
 
-        frame, box = frame_of(addr, seed), Box(four_integers("at", at), two_integers("half", half))
+        frame, box = frame_of(addr, seed), box_of(four_integers("at", at), half)
         if isinstance(listing, Patch):
             return judged(self, frame, box, Found(listing.tiles, listing.addresses))
         if not isinstance(listing, (str, bytes)):
@@ -668,7 +686,7 @@ class Tiling:
         of : {"tiles", "vertices", "edges"}
             With "vertices" a piece is the vertices that lie in it, int64 (V, 4), each in exactly one piece.
             With "edges" it is the edges whose middles lie in it, as the points of their ends, int64 (E, 2,
-            4).
+            4). `Tiling.ring.xy` turns points into x and y. Without `whole`, the cuts of halves are edges too.
         start : int
             The number of the first piece, where an earlier run ended.
         progress : bool
@@ -683,6 +701,8 @@ class Tiling:
         ------
         ValueError
             The region reaches beyond the centres that windows may have; `part` or `start` is out of range.
+        TooManyTiles
+            Each of the largest pieces is sure to have more than 200,000 tiles.
         """
         from .sheet import Sheet
 
@@ -835,4 +855,28 @@ def address_of(addr: Address) -> str:
 
 
 def frame_of(addr: Address, seed: int) -> Frame:
-    return Frame(address_of(addr), integer("seed", seed))
+    number = integer("seed", seed)
+    if not 0 <= number < 1 << 64:
+        raise BadWords(f"seed is from 0 to 2^64 - 1, and not {number}")
+    return Frame(address_of(addr), number)
+
+
+def box_of(at: Point, half: Iterable[int]) -> Box:
+    """A window. BadWords, which names the argument, for one that the engine refuses."""
+    found = Box(at, two_integers("half", half))
+    if not all(1 <= side <= MOST_HALF for side in found.half):
+        raise BadWords(f"half is two whole numbers from 1 to {MOST_HALF}, and not {found.half}")
+    if max(abs(a) for a in at) > FARTHEST:
+        raise BadWords(f"at has coefficients up to 2^20 in absolute value, and not {at}")
+    return found
+
+
+def no_tiling(name: str) -> BadWords:
+    """Says that no tiling has a name, and which have one like it."""
+    from difflib import get_close_matches  # (which most users of the package never need)
+
+    known = [*BUILT_IN, *places.rule_names()]
+    near = get_close_matches(name.lower(), known, 3, 0.5)
+    asked = f"; is it {' or '.join(near)}?" if near else "."
+    names = f"The names are {', '.join(BUILT_IN)}, and those of the files in {places.rules_path()}."
+    return BadWords(f"{name!r} is no tiling{asked} {names} Tiling.from_file(PATH) takes a file of your own.")

@@ -4,7 +4,8 @@ import re
 import sys
 
 COMMAND = (
-    r"^(?:    \$ |    |\| (?:.*\| )?`)((?:python3 -m )?pagnetuf (?:board|poster|explore|atlas)\b[^`\n]*)"
+    r"^(?:    \$ |    |\| (?:.*\| )?`)"
+    r"((?:python3 -m )?pagnetuf (?:board|poster|explore|atlas|rules)\b[^`\n]*)"
 )
 
 

@@ -69,6 +69,40 @@ def test_values_that_are_refused(tiling, told, ask):
         ask(tiling("p3"))
 
 
+@pytest.mark.parametrize(
+    "told, ask",
+    [
+        (r"^half is two whole numbers from 1 to 4096, and not \(0, 12\)$", lambda t: t.window(half=(0, 12))),
+        (r"^half .* not \(5, 4097\)$", lambda t: t.window(half=(5, 4097))),
+        (r"^half .* not \(0, 1\)$", lambda t: t.verify("", half=(0, 1))),
+        (r"^at has .* up to 2\^20 .* not \(0, -1048577, 0, 0\)$", lambda t: t.window((0, -1048577, 0, 0))),
+        (r"^seed is from 0 to 2\^64 - 1, and not -1$", lambda t: t.window(seed=-1)),
+        (r"^seed .* not 18446744073709551616$", lambda t: t.window(seed=1 << 64)),
+        (r"^seed .* not -1$", lambda t: t.star("0:", 0, seed=-1)),
+        (r"^seed .* not -1$", lambda t: t.walk("0:", [0], seed=-1)),
+        (r"^seed .* not -1$", lambda t: t.sheet((60, 60), seed=-1)),
+        (r"^seed .* not -1$", lambda t: t.locate((0, 0, 0, 0), seed=-1)),
+    ],
+)
+def test_a_number_out_of_range_is_named(tiling, told, ask):
+    with pytest.raises(pagnetuf.BadWords, match=told):
+        ask(tiling("p3"))
+
+
+@pytest.mark.parametrize(
+    "name, told",
+    [
+        ("penrose", "is it penrose_p"),
+        ("P3", r"is it p3 or p2\?"),
+        ("spinx", r"is it sphinx\b"),
+        ("zzzzz", r"'zzzzz' is no tiling\. The names are chair, .* and those of the files in "),
+    ],
+)
+def test_a_name_of_no_tiling_is_told_with_those_like_it(library, name, told):
+    with pytest.raises(pagnetuf.BadWords, match=told):
+        pagnetuf.Tiling(name)
+
+
 def test_whole_numbers_of_each_kind_are_taken(tiling):
     t = tiling("p3")
     wanted = t.window((1, 2, 0, 0), (6, 5), 3).tiles.tobytes()

@@ -9,9 +9,10 @@ import xml.etree.ElementTree as ElementTree
 
 import numpy as np
 import pytest
-from conftest import BUILT_IN, RULES, SVG, TOP, environment_of
+from conftest import BUILT_IN, RULES, SVG, TOP, environment_of, rule_files
 from pagnetuf import Patch
 from pagnetuf.commands.command_line import COMMANDS
+from pagnetuf.commands.rules import FILES, title_of
 
 
 @pytest.mark.parametrize("name", COMMANDS)
@@ -34,6 +35,49 @@ def test_the_version(pagnetuf):
     with open(os.path.join(TOP, "python", "pyproject.toml"), encoding="utf-8") as file:
         assert version not in file.read()
     assert pagnetuf("--version") == (0, f"pagnetuf {version}\n", "")
+
+
+def test_the_rules(pagnetuf):
+    """Each is a line: the built-in ones, and all rule files of the package. A command takes each name."""
+    status, out, err = pagnetuf("rules")
+    titles = dict(re.fullmatch(r"(\w+) +(\S.*)", line).groups() for line in out.splitlines())
+    assert status == 0 and not err and max(map(len, out.splitlines())) < 130
+    assert set(titles) == {*BUILT_IN, *(name[: -len(".toml")] for name in rule_files())}
+    assert len(titles) == out.count("\n")
+    assert [*titles][: len(BUILT_IN)] == ["p3", "p2", "ab", "chair", "halfhex"]
+    assert titles["p2"] == "Penrose's kites and darts"
+    assert titles["penrose_p1"].startswith("R. Penrose's first tiling, by pentagons")
+    for name in ("halfhex", "half_hex", "sphinx"):
+        assert pagnetuf("board", name, "--tiles", 1)[0] == 0
+    assert "rules" in pagnetuf("--help")[1]
+
+
+def test_the_files_of_the_built_in_rules_are_the_same():
+    for name, same in FILES.items():
+        assert BUILT_IN[same] == name
+
+
+def test_the_rules_where_letters_are_few(library):
+    ran = subprocess.run(
+        [sys.executable, "-m", "pagnetuf", "rules"],
+        capture_output=True,
+        check=False,
+        env=environment_of(PYTHONIOENCODING="ascii"),
+    )
+    assert ran.returncode == 0 and b"sides ?2 and 1" in ran.stdout and not ran.stderr
+
+
+def test_titles_of_rule_files(tmp_path):
+    path = tmp_path / "it.toml"
+    long = "It is long: " + "and so on " * 10
+    for text, title in (
+        ("# One, by\n# R. Penrose. Two.\n", "One, by R. Penrose"),
+        (f"# {long}\n", "It is long"),
+        ("order = 4\n# No title\n", ""),
+        ("", ""),
+    ):
+        path.write_text(text)
+        assert title_of(path) == title
 
 
 @pytest.mark.parametrize("name", ["board", "poster", "atlas"])
@@ -84,7 +128,8 @@ def test_a_closed_pipe_ends_without_a_word(library):
 @pytest.mark.parametrize(
     "words, status, told",
     [
-        (("board", "nosuch"), 1, "nosuch"),
+        (("board", "nosuch"), 1, "there is no tiling nosuch"),
+        (("board", "nosuch"), 1, "python3 -m pagnetuf rules lists the names"),
         (("board", "p3", "--addr", "9:"), 4, "4 BadAddress UnknownKind 0"),
         (("board", "p3", "--half", "4000,4000"), 7, "7 TooManyTiles"),
         (("board", "p3", "--half", "0,1"), 2, "0,1"),

@@ -61,4 +61,12 @@ def test_the_browser_is_given_the_address(tmp_path):
     script.write_text(f'#!/bin/sh\nprintf "%s\\n" "$1" > "{tmp_path}/given"\n')
     script.chmod(0o755)
     told = ran("ab", BROWSER=str(script))
-    assert told.returncode == 0 and (tmp_path / "given").read_text() == told.stdout
+    assert told.returncode == 0 and (tmp_path / "given").read_text() == told.stdout and not told.stderr
+
+
+def test_no_browser(tmp_path):
+    """Where none can be started, the address is printed all the same, and it is said."""
+    told = ran("ab", BROWSER="/bin/false", PATH=str(tmp_path))
+    assert told.returncode == 0 and told.stdout.endswith("&tiling=ab\n")
+    assert told.stderr.startswith("python3 -m pagnetuf explore: no browser was opened")
+    assert not ran("ab", "--print", PATH=str(tmp_path)).stderr

@@ -172,6 +172,106 @@ def test_a_plot(patches):
         pyplot.close("all")
 
 
+def test_a_plot_of_its_own_has_no_axes(patches):
+    """It has equal lengths; axes that are given keep their ticks."""
+    matplotlib = pytest.importorskip("matplotlib")
+    matplotlib.use("Agg")
+    from matplotlib import pyplot
+
+    ax = patches[0].plot()
+    assert not ax.axison and ax.get_aspect() in (1, "equal")
+    _, other = pyplot.subplots()
+    assert patches[0].plot(other).axison
+    pyplot.close("all")
+
+
+@pytest.mark.parametrize(
+    "look", [{"linewidths": 0}, {"lw": 0}, {"edgecolors": "none"}, {"edgecolor": "None"}]
+)
+def test_a_plot_without_lines_has_no_seams(tiling, look):
+    matplotlib = pytest.importorskip("matplotlib")
+    matplotlib.use("Agg")
+    from matplotlib import image, pyplot
+
+    patch = tiling("p3").window(half=(8, 6)).whole()
+    ax = patch.plot(each=["black"] * len(patch), **look)
+    ax.set_xlim(-3, 3)
+    ax.set_ylim(-2, 2)
+    file = io.BytesIO()
+    ax.figure.savefig(file, dpi=100)
+    pyplot.close("all")
+    file.seek(0)
+    pixels = image.imread(file)[..., :3]
+    high, wide = len(pixels) // 3, len(pixels[0]) // 3
+    assert pixels[high : 2 * high, wide : 2 * wide].max() < 0.1 < pixels.max()
+
+
+def test_a_plot_with_lines_keeps_them(patches):
+    matplotlib = pytest.importorskip("matplotlib")
+    matplotlib.use("Agg")
+    from matplotlib import colors, pyplot
+
+    for look in ({}, {"linewidths": 2}, {"edgecolors": "#222222"}, {"linewidths": [0, 2]}):
+        (drawn,) = patches[0].plot(**look).collections
+        assert (drawn.get_edgecolors() == colors.to_rgba("#222222")).all()
+    (drawn,) = patches[0].plot(alpha=0.5, linewidths=0).collections  # (seams of its own colour would show)
+    assert (np.array(drawn.get_linewidths()) == 0).all()
+    pyplot.close("all")
+
+
+def fills(text):
+    return [polygon.get("fill") for polygon in ElementTree.fromstring(text).iter(SVG + "polygon")]
+
+
+def test_a_colour_for_each_tile(patches):
+    """Texts, and red, green and blue by floats or bytes, in both pictures."""
+    for patch in patches:
+        far = np.hypot(*patch.middles().T)
+        grey = np.round(far / far.max() * 255).astype(np.uint8)
+        names = [f"#{it:02x}{it:02x}{it:02x}" for it in grey.tolist()]
+        rows = np.stack([grey] * 3, 1)
+        opaque = np.insert(rows / 255, 3, 1, axis=1)
+        for each in (names, np.array(names), rows, rows / 255, opaque, opaque.tolist()):
+            assert fills(patch.to_svg(each=each)) == names
+        assert ".k0{" not in patch.to_svg(each=names) and fills(patch.to_svg(each=names, ids=True)) == names
+    assert set(fills(patches[0].to_svg())) == {None}
+    assert fills(patches[0][:2].to_svg(each=["a<", "navy"]))[0] == "a<"
+
+
+def test_a_plot_with_a_colour_for_each_tile(patches):
+    matplotlib = pytest.importorskip("matplotlib")
+    matplotlib.use("Agg")
+    from matplotlib import colormaps, pyplot
+
+    for patch in patches:
+        wanted = colormaps["viridis"](np.hypot(*patch.middles().T) / 20)
+        (drawn,) = patch.plot(each=wanted).collections
+        assert np.allclose(drawn.get_facecolors(), wanted, atol=1 / 255)
+    pyplot.close("all")
+
+
+@pytest.mark.parametrize(
+    "words, error, told",
+    [
+        ({"each": ["red"]}, ValueError, "each has a colour for each of 40 tiles, and not 1"),
+        ({"each": "red"}, TypeError, "each is a sequence"),
+        ({"each": ["red"] * 39 + [3]}, TypeError, "each of the colours in each is a text, and not 3"),
+        ({"each": np.ones((40, 2))}, ValueError, "each has rows of red, green and blue"),
+        ({"each": np.ones(40)}, ValueError, "each has rows of red, green and blue"),
+        ({"each": np.full((40, 3), 2.0)}, ValueError, "each has numbers from 0 to 1"),
+        ({"each": np.full((40, 3), np.nan)}, ValueError, "each has numbers from 0 to 1"),
+        ({"each": np.full((40, 4), 0.5)}, ValueError, "each has opaque colours"),
+        ({"each": ["red"] * 40, "colours": ["red"]}, ValueError, "leave out colours"),
+        ({"colours": ["red"] * 40}, ValueError, "each= takes one for each of 40 tiles"),
+    ],
+)
+def test_wrong_colours_for_tiles(tiling, words, error, told):
+    patch = tiling("p3").window(half=(12, 8)).whole()[:40]
+    for picture in (patch.to_svg, patch.plot):
+        with pytest.raises(error, match=told):
+            picture(**words)
+
+
 def test_pictures(patches):
     """A corner of the picture is that of the tile, y downwards, and no number is -0."""
     for patch in patches:
@@ -193,6 +293,33 @@ def test_pictures(patches):
     for words in ({"colours": []}, {"by": "size"}):
         with pytest.raises(ValueError):
             patches[0].to_svg(**words)
+
+
+def refusals_of_colours(picture):
+    """A colour that is none is named, and neighbours are never alike without a word."""
+    for colours in (["rde"], ["red", "#12345"], ["red", "gold", "navy", "notacolour"]):
+        with pytest.raises(ValueError, match=f"each of colours is such as .* and not '{colours[-1]}'"):
+            picture(colours=colours)
+    for colours in (["red"], ["red", "gold"], ["red", "gold", "red"]):
+        with pytest.raises(ValueError, match="by neighbours needs 3 different colours"):
+            picture(colours=colours, by="neighbours")
+
+
+@pytest.mark.parametrize("name", ["p3", "p2", "ab"])
+def test_colours_that_are_refused(tiling, name):
+    patch = tiling(name).window(half=(8, 6)).whole()
+    refusals_of_colours(patch.to_svg)
+    assert ".n2{fill:#00f}" in patch.to_svg(colours=["red", "Gold", "#00f"], by="neighbours")
+
+
+def test_colours_that_a_plot_refuses(tiling):
+    pytest.importorskip("matplotlib").use("Agg")
+    from matplotlib import pyplot
+
+    patch = tiling("p3").window(half=(8, 6)).whole()
+    refusals_of_colours(patch.plot)
+    assert not pyplot.get_fignums() and patch.plot(colours=["C0", "tab:red"])
+    pyplot.close("all")
 
 
 def test_graphs(patches):
@@ -291,10 +418,80 @@ def test_files_of_numpy(patches, tmp_path):
         assert again.tiles.tobytes() == patch.tiles.tobytes() and again.has_addresses == patch.has_addresses
         assert (again.outlines() == patch.outlines()).all() and again.stars() == patch.stars()
         assert not patch.has_addresses or again.address_texts() == patch.address_texts()
-        assert again.rule.to_text() == patch.rule.to_text()
+        assert again.rule.to_text() == patch.rule.to_text() and again == patch
     np.savez(tmp_path / "other.npz", x=np.zeros(3))
     with pytest.raises(ValueError, match="to_npz"):
         Patch.from_npz(tmp_path / "other.npz")
+
+
+@pytest.mark.parametrize("name", ["noext", "patch.npz", "patch.v2"])
+def test_a_file_of_numpy_keeps_its_name_and_the_centre(tiling, tmp_path, name):
+    window = tiling("p3").window(at=(200, 100, 0, 0), half=(8, 7))
+    for patch in (window, window.whole(), window[2:9]):
+        patch.to_npz(str(tmp_path / name))
+        again = Patch.from_npz(str(tmp_path / name))
+        assert [it.name for it in tmp_path.iterdir()] == [name]
+        assert again == patch and again.centre == window.centre != (0.0, 0.0)
+    stream = io.BytesIO()
+    window.to_npz(stream)
+    stream.seek(0)
+    assert Patch.from_npz(stream) == window
+
+
+def test_a_file_of_numpy_without_a_centre(tiling, tmp_path):
+    """As earlier versions wrote it."""
+    from pagnetuf.board import arrays
+
+    window = tiling("p3").window(at=(200, 100, 0, 0), half=(8, 7))
+    np.savez(tmp_path / "old.npz", **{name: it for name, it in arrays(window).items() if name != "centre"})
+    again = Patch.from_npz(tmp_path / "old.npz")
+    assert again.centre == (0.0, 0.0) and again.address_texts() == window.address_texts()
+
+
+def test_a_file_of_another_kind_is_told(tiling, tmp_path):
+    tiling("p3").window(half=(8, 7)).to_npz(tmp_path / "whole.npz")
+    data = (tmp_path / "whole.npz").read_bytes()
+    array = io.BytesIO()
+    np.save(array, np.zeros(3))
+    for wrong in (b"", b"hello", b"PK\3\4", data[:-40], data[: len(data) // 2], array.getvalue()):
+        (tmp_path / "wrong").write_bytes(wrong)
+        with pytest.raises(ValueError, match="wrong isn't a file that Patch.to_npz wrote$"):
+            Patch.from_npz(tmp_path / "wrong")
+    with pytest.raises(FileNotFoundError):
+        Patch.from_npz(tmp_path / "missing")
+
+
+def test_equal_patches(tiling):
+    t = tiling("p3")
+    window, words = t.window(half=(8, 7)), {"half": (8, 7)}
+    whole = window.whole()
+    for one, other in (
+        (window, t.window(**words)),
+        (whole, t.window(**words).whole()),
+        (window, window[:]),
+        (whole[[3, 1, 2]], whole[1:4][[2, 0, 1]]),
+        (whole, pickle.loads(pickle.dumps(whole))),
+        (t.window(**words, addresses=False), t.window(**words, addresses=False)),
+        (window[[]], window[[]]),
+    ):
+        assert one == other and not one != other and hash(one) == hash(other) and {one: 1}[other] == 1
+    moved = window[:]
+    moved.centre = 1.0, 0.0
+    others = [window[1:], window[::-1], whole, moved, t.window(**words, addresses=False)]
+    others += [t.window((1, 0, 0, 0), **words), Patch(tiling("p2").rule, window.tiles, window.addresses)]
+    for other in (*others, 3, None):
+        assert window != other and not window == other
+    assert whole != Patch(whole.rule, whole.tiles, whole.addresses)  # (the first halves alone)
+    single = WholePatch(whole.rule, whole.half_tiles, whole.half_addresses, whole.halves * [1, 0] - [0, 1])
+    assert (single.tiles == whole.tiles).all() and single != whole
+
+
+def test_equal_patches_of_either_engine(tiling, program):
+    from pagnetuf import ProgramEngine
+
+    asked = Tiling("p3", ProgramEngine(program))
+    one, other = (it.window(half=(4, 3), seed=5) for it in (tiling("p3"), asked))
+    assert one == other and one.whole() == other.whole() and hash(one) == hash(other)
 
 
 def test_lists(tiling):
@@ -326,6 +523,33 @@ def test_lists(tiling):
     ):
         with pytest.raises(ValueError):
             Patch.from_listing(t, wrong)
+
+
+@pytest.mark.parametrize("name", ["p3", "p2", "ab", "chair", "sphinx.toml", "penrose_p1.toml"])
+def test_a_list_with_tiles_that_overlap(tiling, name):
+    t = tiling(name)
+    window = t.window(half=(6, 5), seed=4)
+    for whole in (False, True):
+        lines = window.listing(whole).splitlines()
+        with pytest.raises(ValueError, match=f"tiles 3 and {len(lines) + 1} of the list are the same"):
+            Patch.from_listing(t, "\n".join([*lines, lines[2]]))
+    lines = window.listing().splitlines()
+    with pytest.raises(ValueError, match=rf"tiles \d+ and {len(lines) + 1} of the list overlap"):
+        Patch.from_listing(t, "\n".join([*lines, on_the_first(window)]))
+    assert not len(Patch.from_listing(t, ""))
+
+
+def on_the_first(window):
+    """A line with another tile on the side of an edge where the first tile lies."""
+    ways = np.roll(window.outlines(), -1, 1) - window.outlines()
+    for tile in range(1, len(window)):
+        for here, there in np.argwhere((ways[0][:, None] == ways[tile]).all(-1)).tolist():
+            step = window.outlines()[0, here] - window.outlines()[tile, there]
+            is_there = not ways[0, here].any() or (window.shifts == window.shifts[tile] + step).all(1).any()
+            if not is_there:
+                place = ",".join(map(str, (window.shifts[tile] + step).tolist()))
+                return f"{window.kinds[tile]} {window.turns[tile]} {place} {window.address(tile)}"
+    raise AssertionError("all tiles are alike")
 
 
 @pytest.mark.parametrize("name", ["p3", "p2", "ab", "chair", "sphinx.toml", "penrose_p1.toml"])

@@ -14,7 +14,7 @@ from pagnetuf import Tiling
 from pagnetuf.engine import Frame
 from pagnetuf.picture import Colours
 from pagnetuf import strokes
-from pagnetuf.symmetry import kept_radius, symmetric_place
+from pagnetuf.symmetry import NoPlace, Place, kept_radius, kept_stars, star_at, symmetric_place
 
 LABEL = "{http://www.inkscape.org/namespaces/inkscape}label"
 
@@ -235,6 +235,50 @@ def test_the_star_in_the_centre(pagnetuf):
     assert len(inner) > 400 and all(np.hypot(*(middles - it).T).min() < 0.02 for it in turned)
 
 
+@pytest.mark.parametrize("rule", ["p2", "p3"])
+def test_the_number_chooses_the_star(pagnetuf, tiling, rule):
+    """On pages of each size: of P2, five kites are more frequent than five darts. Both stars of P3 are five
+    thick rhombs, and their halves differ."""
+    t, found = tiling(rule), {}
+    for side in (60, 100, 150, 200, 300, 500):
+        pages = []
+        for which in (0, 1):
+            _, text, err = pagnetuf("poster", rule, "--size", f"{side},{side}", "--star", f"5,{which}")
+            base, at = re.search(r"around addr=(\S+) seed=0 at=(\S+),", err).groups()
+            place = Place(Frame(base), tuple(int(it) for it in at.split(",")), 0)
+            found.setdefault(which, set()).add(star_at(t, place))
+            groups = {name: paths_of(group) for name, group in layers(text)[1].items() if name != "lines"}
+            near = {name for name, loops in groups.items() for loop in loops if is_at(loop, side / 2)}
+            assert near == {{"p2": ("kind0", "kind2"), "p3": ("kind2", "kind2")}[rule][which]}
+            pages.append(text)
+        assert pages[0] != pages[1]
+    assert [len(stars) for stars in found.values()] == [1, 1] and found[0] != found[1]
+
+
+def is_at(loop, middle):
+    """Whether a tile has a corner in the middle of a page."""
+    return any(np.hypot(x - middle, y - middle) < 0.02 for x, y in loop)
+
+
+def test_a_star_that_becomes_another_one(tiling):
+    """Of chairs, a turn by 1/2 keeps two stars. One of them becomes the other when it is inflated, so only
+    the other has a number, and is in the centre wherever stars are looked for."""
+    t, found = tiling("chair"), set()
+    for at in ((0, 0, 0, 0), (37, 91, 0, 0), (-100, 182, 0, 0), (210, -60, 0, 0)):
+        window = t.window(at, (40, 34))
+        assert len(list(kept_stars(window, 2))) == 2 and len(list(kept_stars(window, 4))) == 1
+        place = symmetric_place(t, 2, 0, 30, Frame(), at)
+        found.add(star_at(t, place))
+        with pytest.raises(NoPlace, match="1 kind of vertex star is kept by a turn by 1/2; some are by 1/4"):
+            symmetric_place(t, 2, 1, 30, Frame(), at)
+    assert found == {((0, 4),) * 4}
+
+
+def test_a_star_that_cannot_be_inflated_so_far(tiling):
+    with pytest.raises(NoPlace, match="keeps star 0 within 1e\\+30 lengths"):
+        symmetric_place(tiling("p3"), 5, 0, 1e30, Frame(), (0, 0, 0, 0))
+
+
 def test_long_paths_come_in_parts(tiling, monkeypatch):
     """Some readers of XML keep no more than ten million characters between two elements."""
     from pagnetuf.commands import poster
@@ -288,6 +332,10 @@ def steps_of(texts):
         (("p3", "--size", "10"), "10"),
         (("p3", "--colours", "rde"), "'rde' is no colour"),
         (("p3", "--line", "-1"), "line"),
+        (("p3", "--cut", "--line", "0.5"), "--line would change nothing: --cut has lines for a cutter only"),
+        (("p3", "--cut", "--colours", "red", "--joined"), "--colours and --joined would change nothing"),
+        (("p3", "--cut", "--by", "turn"), "--by would change nothing"),
+        (("p3", "--by", "neighbours", "--colours", "red,gold"), "needs 3 different colours"),
         (("p3", "--size", "20000,20000", "--tile", "0.5"), "larger --tile"),
     ],
 )

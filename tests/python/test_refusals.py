@@ -15,11 +15,15 @@ from pagnetuf import (
     Outside,
     Refusal,
     RuleRefused,
+    TooManyTiles,
 )
 from pagnetuf.refusals import BY_NAME, refusal_of
 
 KINDS = {
-    ValueError: ("BadWords", "BadAddress", "RuleRefused", "RuleTooLong", "BadScript", "BadListing"),
+    ValueError: (
+        *("BadWords", "BadAddress", "RuleRefused", "RuleTooLong", "BadScript", "BadListing"),
+        *("TooManyTiles", "CoordLimit", "DepthLimit", "StarTooBig"),
+    ),
     IndexError: ("NoEdge", "NoVertex", "Outside"),
     MemoryError: ("NoMemory",),
 }
@@ -58,7 +62,9 @@ def test_a_refusal_says_a_sentence(refusal, told):
 
 
 def test_a_refusal_of_the_package_itself_is_its_sentence():
-    assert str(BadWords("no such rule")) == "no such rule"
+    for kind in (BadWords, TooManyTiles):
+        assert str(kind("no such rule")) == kind("no such rule").sentence == "no such rule"
+        assert "no such rule" == str(pickle.loads(pickle.dumps(kind("no such rule"))))
 
 
 def test_each_fault_of_a_rule_file_has_a_sentence():

@@ -6,7 +6,8 @@ from concurrent.futures import ProcessPoolExecutor, ThreadPoolExecutor
 import numpy as np
 import pytest
 from conftest import BUILT_IN, rule_files
-from pagnetuf.engine import Box
+from pagnetuf import TooManyTiles
+from pagnetuf.engine import Box, Frame
 from pagnetuf.piece import beyond
 from pagnetuf.sheet import RIGHT, UP, gathered, split, window_middles
 
@@ -286,6 +287,23 @@ def test_a_region_beyond_reach_is_refused_at_the_call(tiling):
         with pytest.raises(ValueError, match="beyond"):
             tiling("p3").sheet(half, at)
     assert len(tiling("p3").sheet((10, 10), (1 << 20, 0, 0, 0))) == 1
+
+
+@pytest.mark.parametrize("name", ["p3", "ab", "chair", "sphinx.toml"])
+def test_a_piece_that_is_too_large_is_refused_at_the_call(tiling, name):
+    """What is refused there, the engine refuses too."""
+    t = tiling(name)
+    sure = math.isqrt(int(200_000 * t.rule.greatest_area()) // 4) + 1
+    sure += sure % 2
+    for words in ({}, {"whole": True}, {"of": "edges"}):
+        with pytest.raises(TooManyTiles, match="^piece: a window of half="):
+            t.sheet((3 * sure, sure), piece=(sure, sure), **words)
+        assert len(t.sheet((4, 4), piece=(sure, sure), **words)) == 1
+    for glue in (False, True):
+        with pytest.raises(TooManyTiles, match="meet the window"):
+            t.machine.cover(Frame(), Box((0, 0, 0, 0), (sure, sure)), glue, False)
+    with pytest.raises(ValueError, match=r"piece is at most 4096 .* not \(5000, 1\)"):
+        t.sheet((5000, 1), piece=(5000, 1))
 
 
 def test_progress_of_a_sheet(tiling, capsys, monkeypatch):

@@ -275,7 +275,7 @@ def test_refusals_by_name_and_number(tiling, program):
         with pytest.raises(error) as caught:
             ask()
         assert caught.value.status == status and (caught.value.fields == fields or error is BadWords)
-    with pytest.raises(BadWords, match="'penrose' is no tiling: use chair.*from_file") as caught:
+    with pytest.raises(BadWords, match="'penrose' is no tiling; .* names are chair.*from_file") as caught:
         Tiling("penrose")
     assert caught.value.status == 2
     assert Tiling("sphinx").rule.order == 6 and Tiling("sphinx") == tiling("sphinx.toml")

@@ -6,10 +6,10 @@ import importlib
 import os
 import re
 import sys
-from typing import Any, BinaryIO, Callable, Iterable, List, Optional
+from typing import Any, BinaryIO, Callable, Iterable, List, Optional, Sequence
 
 from .. import __version__, places
-from ..colour_names import NAMES
+from ..colour_names import is_colour
 from ..engine import BUILT_IN, Frame
 from ..picture import PALETTES
 from ..refusals import NoEngine, Refusal
@@ -21,11 +21,27 @@ COMMANDS = {
     "poster": "a page in millimetres, in colours or as lines for a cutter",
     "explore": "a page to pan and zoom in the browser",
     "atlas": "a page about a rule: prototiles, inflation, vertex stars, a patch",
+    "rules": "the names of all rules that there are, and what each is",
 }
 
 
 class Trouble(Exception):
     """Why a command cannot do what was asked, in a sentence."""
+
+    status = 1
+
+
+class WrongWords(Trouble):
+    """Which options don't go together, in a sentence."""
+
+    status = 2
+
+
+def refuse_unused(options: argparse.Namespace, names: Sequence[str], why: str) -> None:
+    """WrongWords if one of some options is given that would change nothing."""
+    given = [f"--{name}" for name in names if getattr(options, name)]
+    if given:
+        raise WrongWords(f"{' and '.join(given)} would change nothing: {why}")
 
 
 def integers_type(count: int, least: int = -(1 << 20), most: int = 1 << 20) -> Callable[[str], List[int]]:
@@ -54,17 +70,28 @@ def whole_number(least: int, most: int) -> Callable[[str], int]:
     return parsed
 
 
+def millimetres(count: int, least: float, most: float) -> Callable[[str], List[float]]:
+    """A type of argparse: `count` lengths with commas between."""
+
+    def parsed(text: str) -> List[float]:
+        parts = text.split(",")
+        if len(parts) != count or not all(
+            re.fullmatch(r"[0-9]{1,6}(\.[0-9]{1,6})?", part) and least <= float(part) <= most
+            for part in parts
+        ):
+            raise argparse.ArgumentTypeError(f"{text!r} isn't {count} lengths from {least:g} to {most:g} mm")
+        return [float(part) for part in parts]
+
+    return parsed
+
+
 def colours(text: str) -> List[str]:
     """A type of argparse: the name of a palette, or colours with commas between, as #rrggbb, #rgb or a name
     of CSS."""
     if text in PALETTES:
         return list(PALETTES[text])
     parts = text.split(",")
-    wrong = [
-        part
-        for part in parts
-        if not re.fullmatch(r"#(?:[0-9A-Fa-f]{3}){1,2}", part) and part.lower() not in NAMES
-    ]
+    wrong = [part for part in parts if not is_colour(part)]
     if wrong:
         raise argparse.ArgumentTypeError(
             f"{wrong[0]!r} is no colour such as #0b3954 or navy, and no palette: {', '.join(PALETTES)}"
@@ -74,7 +101,7 @@ def colours(text: str) -> List[str]:
 
 def add_rule(parser: argparse.ArgumentParser) -> None:
     parser.add_argument(
-        "rule", help="p2, p3, ab, chair, halfhex, a rule file, or the name of one in rules/, such as sphinx"
+        "rule", help="p2, p3, ab, chair, halfhex, a rule file, or a name that the command `rules` lists"
     )
 
 
@@ -88,7 +115,11 @@ def add_frame(parser: argparse.ArgumentParser) -> None:
         help="the centre, as four coefficients; default 0,0,0,0",
     )
     parser.add_argument(
-        "--seed", metavar="N", type=whole_number(0, (1 << 64) - 1), default=0, help="which patch; default 0"
+        "--seed",
+        metavar="N",
+        type=whole_number(0, (1 << 64) - 1),
+        default=0,
+        help="how the tiling goes on around the base tile, which stays; default 0",
     )
     parser.add_argument("--addr", metavar="ADDRESS", default="0:", help="the base tile; default 0:")
 
@@ -102,7 +133,7 @@ def tiling_of(name: str) -> Tiling:
     except OSError as trouble:
         raise Trouble(
             f"there is no tiling {name}, and no file {name} can be read ({trouble.strerror}); "
-            f"rule files are in {places.rules_path()}"
+            f"rule files are in {places.rules_path()}, and {called()} rules lists the names"
         ) from trouble
 
 
@@ -215,7 +246,7 @@ def status_of(words: List[str]) -> int:
         return refused.status
     except (Trouble, NoEngine) as trouble:
         tell(f"{called()} {options.command}: {trouble}")
-        return 1
+        return trouble.status if isinstance(trouble, Trouble) else 1
 
 
 def engine_status(words: List[str]) -> int:

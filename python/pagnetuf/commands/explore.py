@@ -18,7 +18,7 @@ import webbrowser
 from urllib.parse import quote
 
 from .. import places
-from .command_line import Trouble, add_frame, frame_asked, is_known
+from .command_line import Trouble, add_frame, called, frame_asked, is_known, tell
 
 MOST_FILE = 1 << 16  # bytes of a rule file in an address
 
@@ -28,7 +28,7 @@ def add_words(parser: argparse.ArgumentParser) -> None:
         "rule",
         nargs="?",
         default="p3",
-        help="p2, p3, ab, chair, halfhex, a rule file, or the name of one in rules/",
+        help="p2, p3, ab, chair, halfhex, a rule file, or a name that the command `rules` lists",
     )
     add_frame(parser)
     parser.add_argument("--print", action="store_true", help="only print the address")
@@ -37,8 +37,8 @@ def add_words(parser: argparse.ArgumentParser) -> None:
 def run(options: argparse.Namespace) -> None:
     address = f"{pathlib.Path(page_address()).as_uri()}#{view(options)}"
     print(address, flush=True)
-    if not options.print:
-        webbrowser.open(address)
+    if not options.print and not webbrowser.open(address):
+        tell(f"{called()} explore: no browser was opened; the address above can be opened by hand")
 
 
 def page_address() -> str:

@@ -13,13 +13,15 @@ import argparse
 import re
 from argparse import ArgumentTypeError
 from concurrent.futures import ProcessPoolExecutor
-from typing import Callable, Dict, Iterable, Iterator, List, NamedTuple, Optional, Sequence, Tuple
+from itertools import chain
+from typing import Dict, Iterable, Iterator, List, NamedTuple, Optional, Sequence, Tuple
 
 import numpy as np
 
 from .. import places
 from ..arguments import Point, four_integers
 from ..colouring import proper_colouring
+from ..dxf import Spot, drawing
 from ..engine import Box, Frame
 from ..patch import Patch
 from ..picture import COLOURS, PALETTES, colours_of
@@ -35,6 +37,8 @@ from .command_line import (
     add_rule,
     colours,
     frame_asked,
+    millimetres,
+    refuse_unused,
     source_of,
     tell,
     tiling_of,
@@ -53,22 +57,6 @@ CLIP = 'clip-path="url(#page)"'
 EPSILON = 1e-9  # mm
 LAYERS_BY = ("kind", "turn", "star", "neighbours", "ring")
 RINGS = 5
-Spot = Tuple[float, float]  # mm
-
-
-def millimetres(count: int, least: float, most: float) -> Callable[[str], List[float]]:
-    """A type of argparse: `count` lengths with commas between."""
-
-    def parsed(text: str) -> List[float]:
-        parts = text.split(",")
-        if len(parts) != count or not all(
-            re.fullmatch(r"[0-9]{1,6}(\.[0-9]{1,6})?", part) and least <= float(part) <= most
-            for part in parts
-        ):
-            raise ArgumentTypeError(f"{text!r} isn't {count} lengths from {least:g} to {most:g} mm")
-        return [float(part) for part in parts]
-
-    return parsed
 
 
 def width_and_ink(text: str) -> Tuple[float, str]:
@@ -90,7 +78,8 @@ def add_words(parser: argparse.ArgumentParser) -> None:
     add_look(parser)
     star = (
         "puts a vertex in the centre around which the whole page has M-fold symmetry; N is the number of "
-        "the vertex star, from 0"
+        "its vertex star among those with this symmetry, from 0, which is the default and the most frequent: "
+        "of p2, 0 is five kites, and 1 five darts; of p3, both are five thick rhombs"
     )
     parser.add_argument("--star", metavar="M[,N]", type=fold_and_star, help=star)
     add_frame(parser)
@@ -111,15 +100,18 @@ def add_look(parser: argparse.ArgumentParser) -> None:
         "kind, turn, star and ring keep the symmetry"
     )
     inks = f"colours of CSS, in the order of the layers, or a palette: {', '.join(PALETTES)}"
-    lines = "the width and colour of the lines, 0 for none; default 0.3,#222222"
+    lines = "the width and colour of the lines, 0 for none; default 0.3,#222222; not with --cut"
     joined_ = "one area for each colour, without seams between its tiles"
-    cut = "no areas: each edge exactly once, in the fewest strokes, clipped to the page, and a frame"
+    cut = (
+        "no areas: each edge exactly once, in the fewest strokes, clipped to the page, and a frame. The "
+        "kerf, which is what the beam takes away, is set in the software of the laser"
+    )
     add = parser.add_argument
     add("--size", metavar="W,H", type=size, default=[1000, 700], help="the page in mm; 1000,700")
     add("--tile", metavar="MM", type=tile, default=[10.0], help="one length in mm; 10")
     add("--by", choices=LAYERS_BY, default="kind", help=by)
     add("--colours", metavar="C,C,..", type=colours, help=inks)
-    add("--line", metavar="MM[,C]", type=width_and_ink, default=(0.3, INK), help=lines)
+    add("--line", metavar="MM[,C]", type=width_and_ink, help=lines)
     add("--joined", action="store_true", help=joined_)
     add("--cut", action="store_true", help=cut)
 
@@ -127,6 +119,9 @@ def add_look(parser: argparse.ArgumentParser) -> None:
 def run(options: argparse.Namespace) -> None:
     if options.to == "dxf" and not options.cut:
         raise Trouble("dxf has lines only: add --cut")
+    if options.cut:
+        by = ("by",) if options.by != "kind" else ()
+        refuse_unused(options, ("line", "colours", "joined", *by), "--cut has lines for a cutter only")
     tiling = tiling_of(options.rule)
     page = Page(options.size, options.tile[0])
     frame, at = frame_asked(options), four_integers("at", options.at)
@@ -267,14 +262,15 @@ def poster_svg(patch: Patch, page: Page, options: argparse.Namespace) -> Iterato
     on_page = tiles_on(patch, page)
     of, names = classes(patch, page, options)
     names = {name: label for name, label in names.items() if (of[on_page] == name).any()}
+    inks = layer_colours(patch, options, list(names))
     yield from head(page)
-    for (name, label), colour in zip(names.items(), layer_colours(patch, options, list(names))):
+    for (name, label), colour in zip(names.items(), inks):
         look = f'fill="{colour}" stroke="{colour}" stroke-width="0.1" stroke-linejoin="round" {CLIP}'
         yield layer(f"{options.by}{name}", label, look)
         areas = areas_joined if options.joined else areas_apart
         yield from lines(areas(patch, np.flatnonzero((of == name) & on_page), texts))
         yield "</g>\n"
-    width, ink = options.line
+    width, ink = options.line or (0.3, INK)
     if width:
         look = f'fill="none" stroke="{ink}" stroke-width="{number(width)}" {ROUND} {CLIP}'
         yield layer("lines", "lines", look)
@@ -323,6 +319,8 @@ def layer_colours(patch: Patch, options: argparse.Namespace, names: List[int]) -
     if own and not options.colours:
         return [own[name] for name in names]
     given = list(options.colours or COLOURS)
+    if options.by == "neighbours" and len(set(given[: len(names)])) < len(names):
+        raise Trouble(f"by neighbours this page needs {len(names)} different colours")
     if options.colours and len(given) != len(names):
         others = " or ".join(f"--by {by}" for by in LAYERS_BY if by != options.by)
         told = (
@@ -406,7 +404,7 @@ def cut_page(patch: Patch, page: Page, options: argparse.Namespace) -> Iterator[
     trails = strokes(edges)
     tell(f"{len(edges)} edges in {len(trails)} strokes, each edge exactly once")
     drawn = ([(x, y) for x, y in ends[trail].tolist()] for trail in trails)
-    yield from (dxf if options.to == "dxf" else cut_svg)(drawn, page)
+    yield from (cut_dxf if options.to == "dxf" else cut_svg)(drawn, page)
 
 
 def clipped_edges(patch: Patch, page: Page) -> Tuple[np.ndarray, np.ndarray]:
@@ -475,42 +473,9 @@ def cut_svg(trails: Iterable[List[Spot]], page: Page) -> Iterator[str]:
     yield element("path", d=f"M0 0H{number(page.wide)}V{number(page.high)}H0Z") + "\n</g>\n</svg>\n"
 
 
-DXF_LAYERS = (("CUT", 1), ("FRAME", 5))  # red and blue
-CLOSED = 1
-
-
-def dxf_lines(*pairs: object) -> str:
-    """Pairs of a group code and a value, each in a line."""
-    return "".join(f"{word}\n" for word in pairs)
-
-
-def dxf_head(page: Page) -> str:
-    """The header, in mm, and the tables of line types and layers."""
-    out = dxf_lines(0, "SECTION", 2, "HEADER", 9, "$ACADVER", 1, "AC1009", 9, "$INSUNITS", 70, 4)
-    out += dxf_lines(9, "$MEASUREMENT", 70, 1, 9, "$EXTMIN", 10, 0.0, 20, 0.0, 30, 0.0)
-    out += dxf_lines(9, "$EXTMAX", 10, float(page.wide), 20, float(page.high), 30, 0.0, 0, "ENDSEC")
-    out += dxf_lines(0, "SECTION", 2, "TABLES", 0, "TABLE", 2, "LTYPE", 70, 1, 0, "LTYPE", 2, "CONTINUOUS")
-    out += dxf_lines(70, 64, 3, "Solid line", 72, 65, 73, 0, 40, 0.0, 0, "ENDTAB")
-    out += dxf_lines(0, "TABLE", 2, "LAYER", 70, len(DXF_LAYERS))
-    for name, colour in DXF_LAYERS:
-        out += dxf_lines(0, "LAYER", 2, name, 70, 0, 62, colour, 6, "CONTINUOUS")
-    return out + dxf_lines(0, "ENDTAB", 0, "ENDSEC", 0, "SECTION", 2, "ENTITIES")
-
-
-def dxf(trails: Iterable[List[Spot]], page: Page) -> Iterator[str]:
-    """The same as polylines of DXF, R12, in mm, y upwards: layer CUT red, layer FRAME blue. One that ends
-    where it begins is closed."""
-    yield dxf_head(page)
-    for trail in trails:
-        yield polyline("CUT", [(x, page.high - y) for x, y in trail])
+def cut_dxf(trails: Iterable[List[Spot]], page: Page) -> Iterator[str]:
+    """The same as DXF, y upwards."""
     wide, high = page.wide, page.high
-    yield polyline("FRAME", [(0.0, 0.0), (wide, 0.0), (wide, high), (0.0, high), (0.0, 0.0)])
-    yield dxf_lines(0, "ENDSEC", 0, "EOF")
-
-
-def polyline(name: str, trail: List[Spot]) -> str:
-    is_closed = len(trail) > 2 and trail[0] == trail[-1]
-    out = dxf_lines(0, "POLYLINE", 8, name, 66, 1, 70, CLOSED if is_closed else 0, 10, 0, 20, 0, 30, 0)
-    for x, y in trail[:-1] if is_closed else trail:
-        out += dxf_lines(0, "VERTEX", 8, name, 10, f"{x:.4f}", 20, f"{y:.4f}", 30, 0)
-    return out + dxf_lines(0, "SEQEND", 8, name)
+    cut = (("CUT", [(x, high - y) for x, y in trail]) for trail in trails)
+    frame = [(0.0, 0.0), (wide, 0.0), (wide, high), (0.0, high), (0.0, 0.0)]
+    yield from drawing(wide, high, chain(cut, [("FRAME", frame)]))
