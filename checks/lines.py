@@ -12,9 +12,9 @@ CEILINGS = {
     "clause lines above 110 columns": 0,
     "proof lines above 150 columns": 0,
     "calls with more than 10 clauses": 4,
-    "copies in answers": 300,
+    "copies in answers": 297,
     "lines of definitions above 110 columns": 0,
-    "clause lines said again in their crate": 410,
+    "clause lines said again in their crate": 399,
     "functions with five and more parameters": 106,
 }
 CLAUSE_WIDTH, PROOF_WIDTH, MOST_CLAUSES, LEAST_COPIES, LEAST_LENGTH = 110, 150, 10, 3, 12

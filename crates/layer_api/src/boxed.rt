@@ -38,6 +38,10 @@ impl Layer for Box<dyn Layer> {
         (**self).put_copy(tile)
     }
 
+    fn put_many(&mut self, tile: &Drawn, count: u32) -> Result<(), NoMemory> {
+        (**self).put_many(tile, count)
+    }
+
     fn end(&mut self) -> Result<(), NoMemory> {
         (**self).end()
     }

@@ -1,5 +1,5 @@
 //! What a layer must do.
-ghost use Rattle.std.specs.Prelude.{◌≡◌, Bool, List, [], ◌∷◌, ◌++◌, true, false, OnOk, OnErr, IsTrue, IsFalse, ◌↔◌};
+ghost use Rattle.std.specs.Prelude.{◌≡◌, ℕ, ◌≤◌, Bool, List, [], ◌∷◌, ◌++◌, replicate, true, false, OnOk, OnErr, IsTrue, IsFalse, ◌↔◌};
 ghost use Rattle.layer_api.specs.declared.drawn.Drawn.{Drawn};
 ghost use Rattle.layer_api.specs.declared.format.Format.{Format};
 ghost use Rattle.layer_api.specs.declared.view.View.{View};
@@ -82,6 +82,27 @@ pub trait Layer: Drop {
         ensures form { form self.new ≡ form self.old }
     {
         self.put(tile.copy())
+    }
+
+    /// Adds a number of copies of a tile at the end of the list. A layer that only counts its tiles needs no
+    /// call for each. If memory runs out, some of them may have been added.
+    fn put_many(&mut self, tile: &Drawn, count: u32) -> Result<(), NoMemory>
+        requires begun { IsTrue (begun self.old) }
+        requires open { IsFalse (ended self.old) }
+        requires drawable { IsDrawable (seen self.old).order tile.now }
+        ensures ok { OnOk result ((tiles : List Drawn) → draws self.old tiles
+            → draws self.new (tiles ++ replicate count tile.now)) }
+        ensures err { OnErr result ((some : ℕ) × (some ≤ count) × ((tiles : List Drawn)
+            → draws self.old tiles → draws self.new (tiles ++ replicate some tile.now))) }
+        ensures seen { seen self.new ≡ seen self.old }
+        ensures begun { IsTrue (begun self.new) }
+        ensures open { IsFalse (ended self.new) }
+        ensures form { form self.new ≡ form self.old }
+    {
+        for _number in 0..count {
+            self.put_copy(tile)?;
+        }
+        Ok(())
     }
 
     /// Ends, and makes the text. If memory runs out, the layer has not ended, and its tiles are as before.

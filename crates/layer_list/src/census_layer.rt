@@ -1,9 +1,9 @@
 //! The census of tiles.
-ghost use Rattle.std.specs.Prelude.{◌≡◌, List, length, IfOk, IsFalse, false};
+ghost use Rattle.std.specs.Prelude.{◌≡◌, List, length, IfOk, OnOk, OnErr, IsFalse, false};
 ghost use Rattle.layer_api.specs.declared.drawn.Drawn.{Drawn};
 ghost use Rattle.layer_api.specs.declared.format.Format.TheVariants.{Census};
 ghost use Rattle.layer_api.specs.CensusText.{census_text};
-ghost use Rattle.layer_list.specs.Counts.{IsCountOf, IsCensus};
+ghost use Rattle.layer_list.specs.Counts.{IsCountOf, IsCensus, counted};
 
 use cyclo_points::order::Order;
 use cyclo_points::point::Point;
@@ -55,6 +55,23 @@ impl CensusLayer {
             text: Vec::new(alloc),
         }
     }
+
+    /// Counts a number of tiles of a class. Err if a count would not fit; then nothing changes.
+    fn count(&mut self, class: u8, number: u64) -> Result<(), NoMemory>
+        ensures counted { OnOk result (self.new ≡ counted self.old class number) }
+        ensures same { OnErr result (self.new ≡ self.old) }
+    {
+        let class = class as usize;
+        let Some(count) = self.counts[class].checked_add(number) else {
+            return Err(NoMemory);
+        };
+        let Some(all) = self.all.checked_add(number) else {
+            return Err(NoMemory);
+        };
+        self.counts[class] = count;
+        self.all = all;
+        Ok(())
+    }
 }
 
 impl Layer for CensusLayer {
@@ -91,16 +108,11 @@ impl Layer for CensusLayer {
     }
 
     fn put_copy(&mut self, tile: &Drawn) -> Result<(), NoMemory> {
-        let class = tile.class as usize;
-        let Some(count) = self.counts[class].checked_add(1) else {
-            return Err(NoMemory);
-        };
-        let Some(all) = self.all.checked_add(1) else {
-            return Err(NoMemory);
-        };
-        self.counts[class] = count;
-        self.all = all;
-        Ok(())
+        self.count(tile.class, 1)
+    }
+
+    fn put_many(&mut self, tile: &Drawn, count: u32) -> Result<(), NoMemory> {
+        self.count(tile.class, u64::from(count))
     }
 
     fn end(&mut self) -> Result<(), NoMemory> {

@@ -39,7 +39,7 @@ use Rattle.tile_app.specs.DrawnTile.{CanBeDrawn, CanBeDrawnBy, CanBeDrawnWhole}
 use Rattle.tile_app.specs.Glue.{CanBeGluedInWindow}
 use Rattle.call_notes.specs.Status.{OrNoMemory}
 use Rattle.call_notes.specs.FaultStatus.{status_of_glue}
-use Rattle.tile_app.proofs.Drawing.{drawable_within, fault-or_ok}
+use Rattle.tile_app.proofs.Covering.{drawable_within, fault-or_ok}
 
 -- ---- whole tiles can be drawn
 module _ (t : Tiling) (g : FrameValue) (first : FirstGlueEdgeLaw t) where

@@ -1,7 +1,7 @@
 pub mod Requested
 pub mod Tilings
 pub mod Formats
-pub mod Drawing
+pub mod Covering
 pub mod Gluing
 pub mod Outlines
 pub mod Pictured
@@ -17,6 +17,7 @@ mod Verdicts
 mod OneAnswer
 pub mod Answered
 mod SameTexts
+mod ClassCounts
 mod Places
 pub mod Handing
 pub mod Headline

@@ -4,7 +4,7 @@ use Rattle.std.specs.declared.option.Option.{Option}
 use Rattle.call_words.specs.declared.rule_choice.RuleChoice.{RuleChoice}
 use Rattle.call_words.specs.declared.rule_choice.RuleChoice.TheVariants.{Builtin, File}
 use Rattle.call_words.specs.Request.{Request, request_in, rule_asked}
-use Rattle.call_words.specs.Request.Request.{Place, Neighbour, Walk, Draw, Check, Calc, Drill, Star, Verify}
+use Rattle.call_words.specs.Request.Request.{Calc, Verify}
 use Rattle.call_words.specs.WrongWord.{wrong_place}
 use Rattle.layer_api.specs.declared.format.Format.{Format}
 use Rattle.list_verify.specs.declared.list_fault.ListFault.TheVariants as listing

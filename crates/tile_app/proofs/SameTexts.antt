@@ -2,7 +2,7 @@
 use Rattle.std.specs.Prelude.{codes, Option}
 use Rattle.std.specs.Fmt.{decimal}
 use Rattle.std.specs.List.{flat_map, AllZip, join_with_byte}
-use Rattle.std.proofs.Common.{◌≡◌, ℕ, zero, suc, Bool, true, false, List, [], ◌∷◌, ◌++◌, length, map, refl, sym, ap, ap₂, ◌∙◌, ◌+◌, cond, ◌==◌}
+use Rattle.std.proofs.Common.{◌≡◌, ℕ, zero, suc, Bool, true, false, List, [], ◌∷◌, ◌++◌, map, refl, sym, ap, ap₂, ◌∙◌, ◌+◌, cond, ◌==◌}
 use Rattle.std.proofs.lemmas.List.Sums.{sum_by-append}
 use Rattle.cyclo_points.specs.Text.{blank, newline}
 use Rattle.layer_api.specs.declared.drawn.Drawn.{Drawn}
@@ -10,12 +10,14 @@ use Rattle.layer_api.specs.declared.part.Part.{Part}
 use Rattle.layer_api.specs.declared.format.Format.{Format}
 use Rattle.layer_api.specs.declared.format.Format.TheVariants.{Svg, List as Listing, Census}
 use Rattle.layer_api.specs.declared.view.View.{View}
-use Rattle.layer_api.specs.CensusText.{class_lines, count_of}
+use Rattle.layer_api.specs.CensusText.{class_lines}
 use Rattle.layer_api.specs.ListText.{part_text, second_text, list_line}
 use Rattle.layer_api.specs.SvgText.{head_text, vertex_text, path_line, tail_text}
 use Rattle.layer_api.specs.LayerText.{layer_text}
-use Rattle.tile_app.specs.Alike.{HaveSameCounts, AreAlikeIn}
-use Rattle.tile_app.specs.Looks.{HaveSamePath, HaveSameParts, AreSameTo, looks_in}
+use Rattle.tile_app.specs.declared.looks.Looks.{Looks}
+use Rattle.tile_app.specs.declared.looks.Looks.TheVariants.{All, Paths, Parts, Classes}
+use Rattle.tile_app.specs.Alike.{AreAlikeIn}
+use Rattle.tile_app.specs.Looks.{HaveSamePath, HaveSameParts, HaveSameCounts, AreSameTo, AreSameListsTo, looks_in}
 
 -- ---- alike, the same text
 lines-alike : (k : ℕ) (ts us : List Drawn) → HaveSameCounts ts us → class_lines k ts ≡ class_lines k us
@@ -66,7 +68,13 @@ same-counts (t ∷ ts) (u ∷ us) h =
       in_all = ap suc rest.in_all;
     }
 
-pub alike-in : (all : Bool) (f : Format) (ts us : List Drawn) → AllZip (AreSameTo (looks_in all f)) ts us → AreAlikeIn f ts us
+pub lists-same : (looks : Looks) (ts us : List Drawn) → AllZip (AreSameTo looks) ts us → AreSameListsTo looks ts us
+lists-same All ts us h = h
+lists-same Paths ts us h = h
+lists-same Parts ts us h = h
+lists-same Classes ts us h = same-counts ts us h
+
+pub alike-in : (all : Bool) (f : Format) (ts us : List Drawn) → AreSameListsTo (looks_in all f) ts us → AreAlikeIn f ts us
 alike-in true Svg ts us h =
     zip-weaker (λ d e. d ≡ e) HaveSamePath
     (λ d e same. record { class = ap (λ (x : Drawn). x.class) same; outline = ap (λ (x : Drawn). x.outline) same }) ts us h
@@ -77,7 +85,7 @@ alike-in true Census ts us h =
     same-counts ts us (zip-weaker (λ d e. d ≡ e) (λ d e. d.class ≡ e.class) (λ d e same. ap (λ (x : Drawn). x.class) same) ts us h)
 alike-in false Svg ts us h = h
 alike-in false Listing ts us h = h
-alike-in false Census ts us h = same-counts ts us h
+alike-in false Census ts us h = h
 
 -- ---- to a layer that looks at all, equal
 pub equal-tiles : (ts us : List Drawn) → AllZip (λ d e. d ≡ e) ts us → ts ≡ us

@@ -1,7 +1,7 @@
 -- What no request is refused for: what is tested before it is looked at.
 use Rattle.std.proofs.Common.{ℕ, List}
 use Rattle.call_words.specs.Request.{Request}
-use Rattle.call_words.specs.Request.Request.{Place, Neighbour, Walk, Draw, Check, Calc, Drill, Star, Verify}
+use Rattle.call_words.specs.Request.Request.{Check, Calc, Drill}
 use Rattle.layer_api.specs.declared.format.Format.{Format}
 use Rattle.rule_model.specs.Tiling.{Tiling}
 use Rattle.call_notes.specs.declared.rule_fault.RuleFault.{RuleFault}

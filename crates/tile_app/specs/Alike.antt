@@ -1,16 +1,10 @@
 -- Lists of tiles that have the same text in a format.
-use Rattle.std.specs.Prelude.{◌≡◌, ℕ, List, length}
+use Rattle.std.specs.Prelude.{List}
 use Rattle.std.specs.List.{AllZip}
 use Rattle.layer_api.specs.declared.drawn.Drawn.{Drawn}
 use Rattle.layer_api.specs.declared.format.Format.{Format}
 use Rattle.layer_api.specs.declared.format.Format.TheVariants.{Svg, List as Listing, Census}
-use Rattle.layer_api.specs.CensusText.{count_of}
-use Rattle.tile_app.specs.Looks.{HaveSamePath, HaveSameParts}
-
--- as many tiles of each class, and as many in all
-pub record HaveSameCounts (ts us : List Drawn) : Type 0 where
-  pub each : (class : ℕ) → count_of class ts ≡ count_of class us
-  pub in_all : length ts ≡ length us
+use Rattle.tile_app.specs.Looks.{HaveSamePath, HaveSameParts, HaveSameCounts}
 
 abbrev pub AreAlikeIn : Format → List Drawn → List Drawn → Type 0
 AreAlikeIn Svg ts us = AllZip HaveSamePath ts us

@@ -19,6 +19,8 @@ pub mod Glue
 pub mod TilesOfWindow
 pub mod Pictures
 pub mod Pictured
+pub mod Drawings
+pub mod Putting
 pub mod Draw
 pub mod Looks
 pub mod Alike

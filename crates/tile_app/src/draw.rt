@@ -10,16 +10,16 @@ ghost use Rattle.window_cover.specs.Windows.{IsWindow};
 ghost use Rattle.tile_app.specs.BaseFrame.{IsBegun};
 ghost use Rattle.tile_app.specs.Draw.{view_of, Pictures, PrintsDraw, DrawRefuses};
 ghost use Rattle.tile_app.specs.LayerTexts.{HasDrawn, FirstHasDrawn, IsTextOf};
-ghost use Rattle.tile_app.specs.Looks.{HasPut};
-ghost use Rattle.tile_app.specs.Pictured.{picture_of, CanBePictured};
+ghost use Rattle.tile_app.specs.Drawings.{tiles_drawn, CanBeShown};
 ghost use Rattle.call_notes.specs.Status.{OrNoMemory};
 ghost use Rattle.tile_app.specs.Windows.{window_asked};
 
-use crate::drawn_tile::stand_in;
+use crate::drawing::Drawing;
 use crate::glue_edges::GlueEdges;
 use crate::layers::place_of;
 use crate::looks::Looks;
 use crate::picture::Picture;
+use crate::put_drawing::put_drawing;
 use crate::whole_answer::WholeAnswer;
 use crate::window::window_in;
 use arrayvec::ArrayVec;
@@ -38,22 +38,23 @@ use plane_geom::window::Window;
 use std::alloc::Global;
 use tile_place::machine::Machine;
 use tile_shape::no_memory::NoMemory;
+use window_cover::find_tiles::find_tiles;
 use window_cover::tiles_of_window::covered_tiles;
 
-/// Returns the picture of a window in the frame of a base: its tiles, or with glue their whole tiles.
+/// Returns what is drawn of a window in the frame of a base: its tiles, or with glue their whole tiles.
 fn pictured(
     alloc: Global,
     machine: &Machine,
     whole: bool,
     frame: &mut Frame,
     window: &Window,
-) -> Result<Picture, Status>
+) -> Result<Drawing, Status>
     requires frame { IsFrameOf (tiling_of machine.now) frame.old }
     requires begun { IsBegun frame.old }
     requires fits { IsWindow window.now }
-    ensures can { IfOk result (λ picture. CanBePictured (tiling_of machine.now) picture) }
-    ensures pictures { IfOk result (λ picture. Pictures whole (tiling_of machine.now) frame.old window.now
-        (picture_of (tiling_of machine.now) picture)) }
+    ensures can { IfOk result (CanBeShown (tiling_of machine.now)) }
+    ensures pictures { IfOk result (λ drawing. Pictures whole (tiling_of machine.now) frame.old window.now
+        (tiles_drawn (tiling_of machine.now) drawing)) }
     ensures refused { IfErr result
         (OrNoMemory (DrawRefuses whole (tiling_of machine.now) frame.old window.now)) }
 {
@@ -63,9 +64,10 @@ fn pictured(
         whole_tiles_law(machine);
         let tiles = covered_tiles(alloc, machine, frame, window)?;
         let wholes = glue_covered(alloc, machine, frame, tiles)?;
-        Ok(Picture::Wholes(wholes, GlueEdges::new(machine)))
+        let picture = Picture::Wholes(wholes, GlueEdges::new(machine));
+        Ok(Drawing::InOrder(picture))
     } else {
-        Ok(Picture::Tiles(covered_tiles(alloc, machine, frame, window)?))
+        Ok(Drawing::Found(find_tiles(alloc, machine, frame, window)?))
     }
 }
 
@@ -83,100 +85,82 @@ fn view_of(machine: &Machine, window: &Window) -> View
     }
 }
 
-/// Puts the tiles of a picture into a layer, as far as it looks at them.
-fn put_tiles<D: Layer>(
-    layer: &mut D,
-    looks: Looks,
-    machine: &Machine,
-    picture: &Picture,
-) -> Result<(), NoMemory>
-    requires begun { IsTrue (D.begun layer.old) }
-    requires open { IsFalse (D.ended layer.old) }
-    requires none { D.draws layer.old [] }
-    requires its_order { (D.seen layer.old).order ≡ machine.now.order }
-    requires can { CanBePictured (tiling_of machine.now) picture.now }
-    ensures put { OnOk result (HasPut (D.draws layer.new) looks
-        (picture_of (tiling_of machine.now) picture.now)) }
-    ensures seen { D.seen layer.new ≡ D.seen layer.old }
-    ensures begun { IsTrue (D.begun layer.new) }
-    ensures open { IsFalse (D.ended layer.new) }
-    ensures form { D.form layer.new ≡ D.form layer.old }
-{
-    let mut drawn = stand_in();
-    for place in 0..picture.len() {
-        picture.put(&mut drawn, looks, machine, place);
-        layer.put_copy(&drawn)?;
-    }
-    Ok(())
-}
-
-/// Draws a picture through a layer, from beginning to end. The layer gets all that the tiles have if it
-/// needs all, and otherwise at least what the text of its format depends on.
+/// Draws a window's tiles through a layer, from beginning to end. The layer gets all that the tiles have if
+/// it needs all, and otherwise at least what the text of its format depends on. Returns the drawing, put in
+/// order if that layer needs it.
 fn draw<D: Layer>(
     layer: &mut D,
     machine: &Machine,
     view: View,
-    picture: &Picture,
-) -> Result<(), NoMemory>
+    drawing: Drawing,
+) -> Result<Drawing, NoMemory>
     requires view { IsView view }
     requires its_order { view.order ≡ machine.now.order }
-    requires can { CanBePictured (tiling_of machine.now) picture.now }
+    requires can { CanBeShown (tiling_of machine.now) drawing }
     ensures drawn { OnOk result (HasDrawn D.form D.seen D.ended D.draws view
-        (picture_of (tiling_of machine.now) picture.now) layer.new) }
+        (tiles_drawn (tiling_of machine.now) drawing) layer.new) }
     ensures whole { OnOk result (IsTrue (D.needs_all layer.old)
-        → D.draws layer.new (picture_of (tiling_of machine.now) picture.now)) }
+        → D.draws layer.new (tiles_drawn (tiling_of machine.now) drawing)) }
     ensures form { D.form layer.new ≡ D.form layer.old }
+    ensures can { IfOk result (CanBeShown (tiling_of machine.now)) }
+    ensures same { IfOk result (λ later. tiles_drawn (tiling_of machine.now) later
+        ≡ tiles_drawn (tiling_of machine.now) drawing) }
 {
     let looks = Looks::of(layer.looks_at_all(), layer.format());
+    let suited = drawing.suited(looks)?;
     layer.begin(view);
-    put_tiles(layer, looks, machine, picture)?;
-    layer.end()
+    put_drawing(layer, looks, machine, &suited)?;
+    layer.end()?;
+    Ok(suited)
 }
 
-/// Draws a picture through the first layer with a format.
+/// Draws a window's tiles through the first layer with a format.
 fn draw_format<D: Layer>(
     layers: &mut [D],
     format: Format,
     machine: &Machine,
     view: View,
-    picture: &Picture,
-) -> Result<(), NoMemory>
+    drawing: Drawing,
+) -> Result<Drawing, NoMemory>
     requires has_layer { IsTrue (is_among format (map D.form layers.old)) }
     requires view { IsView view }
     requires its_order { view.order ≡ machine.now.order }
-    requires can { CanBePictured (tiling_of machine.now) picture.now }
+    requires can { CanBeShown (tiling_of machine.now) drawing }
     ensures drawn { OnOk result (FirstHasDrawn D.form D.seen D.ended D.draws view
-        (picture_of (tiling_of machine.now) picture.now) layers.new format) }
+        (tiles_drawn (tiling_of machine.now) drawing) layers.new format) }
     ensures others { OnOk result ((other : Format)
         → FirstHasDrawn D.form D.seen D.ended D.draws view
-        (picture_of (tiling_of machine.now) picture.now) layers.old other
+        (tiles_drawn (tiling_of machine.now) drawing) layers.old other
         → FirstHasDrawn D.form D.seen D.ended D.draws view
-        (picture_of (tiling_of machine.now) picture.now) layers.new other) }
+        (tiles_drawn (tiling_of machine.now) drawing) layers.new other) }
     ensures same_forms { OnOk result (map D.form layers.new ≡ map D.form layers.old) }
+    ensures can { IfOk result (CanBeShown (tiling_of machine.now)) }
+    ensures same { IfOk result (λ later. tiles_drawn (tiling_of machine.now) later
+        ≡ tiles_drawn (tiling_of machine.now) drawing) }
 {
     let place = place_of(layers, format).unwrap();
-    draw(&mut layers[place], machine, view, picture)?;
-    Ok(())
+    draw(&mut layers[place], machine, view, drawing)
 }
 
-/// Draws a picture through the first layer with each of several formats.
+/// Draws a window's tiles through the first layer with each of several formats.
 fn draw_formats<D: Layer>(
     layers: &mut [D],
     formats: &[Format],
     machine: &Machine,
     view: View,
-    picture: &Picture,
+    drawing: Drawing,
 ) -> Result<(), NoMemory>
     requires have_layers { first_lacking (map D.form layers.old) formats.now ≡ None }
     requires view { IsView view }
     requires its_order { view.order ≡ machine.now.order }
-    requires can { CanBePictured (tiling_of machine.now) picture.now }
+    requires can { CanBeShown (tiling_of machine.now) drawing }
     ensures drawn { OnOk result (All (FirstHasDrawn D.form D.seen D.ended D.draws view
-        (picture_of (tiling_of machine.now) picture.now) layers.new) formats.now) }
+        (tiles_drawn (tiling_of machine.now) drawing) layers.new) formats.now) }
     ensures same_forms { OnOk result (map D.form layers.new ≡ map D.form layers.old) }
 {
+    let mut later = drawing;
     for format in formats {
-        draw_format(layers, *format, machine, view, picture)?;
+        later = draw_format(layers, *format, machine, view, later)?;
     }
     Ok(())
 }
@@ -205,8 +189,8 @@ pub fn draw_text<D: Layer>(
         (window_asked machine.now.order (window_of asked.now)))) }
 {
     let window = window_in(machine.checked().order(), asked);
-    let picture = pictured(alloc, machine, whole, frame, &window)?;
+    let drawing = pictured(alloc, machine, whole, frame, &window)?;
     let view = view_of(machine, &window);
-    draw_formats(layers, formats.as_slice(), machine, view, &picture)?;
+    draw_formats(layers, formats.as_slice(), machine, view, drawing)?;
     Ok(WholeAnswer::of_layers(formats))
 }

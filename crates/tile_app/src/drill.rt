@@ -22,7 +22,7 @@ use tile_place::machine::Machine;
 use tile_shape::address::Address;
 use tile_shape::no_memory::NoMemory;
 use window_cover::cover_fault::CoverFault;
-use window_cover::tiles_of_window::covered_tiles;
+use window_cover::find_tiles::find_tiles;
 
 /// Returns the next output of the generator as a coefficient of a centre, at most 32 in absolute value.
 fn next_coefficient(growth: &mut Growth) -> i64
@@ -108,7 +108,7 @@ fn add_window(
     ensures most_tiles_more { summary.new.tiles ≤ summary.old.tiles + most_tiles }
     ensures one_refused_more { summary.new.refused ≤ summary.old.refused + 1 }
 {
-    match covered_tiles(alloc, machine, frame, window) {
+    match find_tiles(alloc, machine, frame, window) {
         Ok(tiles) => {
             let count = tiles.len() as u32;
             summary.add(count, frame.depth());

@@ -2,9 +2,9 @@
 use Rattle.std.proofs.Common.{◌≡◌, ◌⊎◌, ◌≤◌, ℕ, List, length, inl, inr, refl, sym, ap, ◌∙◌, subst, IsUtf8}
 use Rattle.call_notes.specs.declared.status.Status.{Status}
 use Rattle.call_notes.specs.declared.status.Status.TheVariants.{Done}
-use Rattle.call_notes.specs.Notes.{note_of, longest_note}
+use Rattle.call_notes.specs.Notes.{longest_note}
 use Rattle.call_notes.specs.Status.{code_of, IsLimit}
-use Rattle.tile_app.specs.Causes.{Causes, IsNoLimit}
+use Rattle.tile_app.specs.Causes.{Causes}
 use Rattle.tile_app.specs.Call.{Call}
 use Rattle.c_values.specs.Statuses.{ok, not_text, no_memory}
 use Rattle.tiling_c.specs.Calling.{EndsWith, ShowsCall, TellsStatus, call_in}

@@ -3,7 +3,7 @@ use Rattle.std.proofs.Common.{◌≡◌, ◌⊎◌, ℕ, Err, IsOk, sym, ap, ◌
 use Rattle.std.specs.Prelude.{Result}
 use Rattle.window_cover.specs.declared.cover_fault.CoverFault.{CoverFault}
 use Rattle.window_cover.specs.declared.cover_fault.CoverFault.TheVariants.{DepthLimit, CoordLimit, TooManyTiles, NoMemory}
-use Rattle.tile_app.proofs.Drawing.{fault-or_ok}
+use Rattle.tile_app.proofs.Covering.{fault-or_ok}
 use Rattle.c_values.specs.Statuses.{ok, bad_words, bad_address, no_memory}
 use Rattle.rule_model.specs.Tiling.{Tiling}
 use Rattle.theory_walks.specs.Frames.{FrameValue}

@@ -3,7 +3,7 @@ use Rattle.std.proofs.Common.{◌≡◌, ◌⊎◌, inl, inr, ℕ, Err, IsOk, sy
 use Rattle.std.specs.Prelude.{Result}
 use Rattle.half_glue.specs.declared.glue_fault.GlueFault.{GlueFault}
 use Rattle.half_glue.specs.declared.glue_fault.GlueFault.TheVariants.{DepthLimit, CoordLimit, NoMemory}
-use Rattle.tile_app.proofs.Drawing.{fault-or_ok}
+use Rattle.tile_app.proofs.Covering.{fault-or_ok}
 use Rattle.c_values.specs.Statuses.{ok, bad_words, bad_address, no_memory}
 use Rattle.rule_model.specs.Tiling.{Tiling}
 use Rattle.theory_walks.specs.Frames.{FrameValue}

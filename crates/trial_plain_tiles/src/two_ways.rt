@@ -1,5 +1,5 @@
 //! Windows covered in two ways: by a search from the tile at the centre, and from the top down if the window
-//! is large enough for that.
+//! is large enough for that. Their tiles are also counted as they were found.
 use crate::counts::Counts;
 use crate::draws::Draws;
 use crate::frame_tiles::begun;
@@ -12,6 +12,8 @@ use tile_place::placed_tile::PlacedTile;
 use tile_shape::address::Address;
 use window_cover::cover_fault::CoverFault;
 use window_cover::covered_tiles::CoveredTiles;
+use window_cover::find_tiles::find_tiles;
+use window_cover::found_tiles::FoundTiles;
 use window_cover::tiles_of_window::{cover, covered_tiles};
 
 /// Returns true if both ways give the same tiles in the same order, or the same fault.
@@ -27,6 +29,31 @@ fn same(
         }
         (Err(CoverFault::NoMemory), _) => false,
         (Err(first), Err(second)) => first == second,
+        _ => false,
+    }
+}
+
+/// Returns true if the tiles as they were found are as many of each kind as the list.
+fn same_counts(searched: &[PlacedTile], found: &FoundTiles) -> bool {
+    let mut counts = found.counts();
+    for tile in searched {
+        let count = &mut counts[usize::from(tile.kind)];
+        if *count == 0 {
+            return false;
+        }
+        *count -= 1;
+    }
+    searched.len() == found.len()
+}
+
+/// Returns true if the tiles as they were found are counted like the list, or there is no list.
+fn counted(
+    searched: &Result<Vec<PlacedTile>, CoverFault>,
+    found: &Result<FoundTiles, CoverFault>,
+) -> bool {
+    match (searched, found) {
+        (Ok(searched), Ok(found)) => same_counts(searched.as_slice(), found),
+        (Err(_), Err(_)) => true,
         _ => false,
     }
 }
@@ -52,7 +79,10 @@ pub fn alike(
     let mut second = begun(machine, base, start)?;
     let searched = cover(alloc, machine, &mut first, window);
     let found = covered_tiles(alloc, machine, &mut second, window);
-    Some(same(&searched, &found) && same_digits(&first, &second))
+    let mut third = begun(machine, base, start)?;
+    let any_order = find_tiles(alloc, machine, &mut third, window);
+    let is_alike = same(&searched, &found) && counted(&searched, &any_order);
+    Some(is_alike && same_digits(&first, &second) && same_digits(&first, &third))
 }
 
 /// Makes `number` random windows with a half-width and half-height of at most `most`, and bases of depth 0 to

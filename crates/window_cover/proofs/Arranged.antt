@@ -49,7 +49,7 @@ zip-keys Q R S g [] (y ∷ ys) q z h = absurd z
 zip-keys Q R S g (k ∷ ks) [] q z h = absurd z
 zip-keys Q R S g (k ∷ ks) (y ∷ ys) q z h = (h k y q.0 z.0, zip-keys Q R S g ks ys q.1 z.1 h)
 
-placed-keys : (above : List theory.Step) (found : List Found) (ks : List OrderKey)
+pub placed-keys : (above : List theory.Step) (found : List Found) (ks : List OrderKey)
     → map (placed_as above) (map (keyed_in found) ks) ≡ tiles_of above found
     (map (λ (k : OrderKey). k.number) ks)
 placed-keys above found [] = refl

@@ -1,5 +1,5 @@
 -- A bisection of tiles in order comes to the tile that is sought, where there is one.
-use Rattle.std.proofs.Common.{◌≡◌, inl, inr, ℕ, zero, suc, ◌+◌, ◌<◌, ◌≤◌, ℤ, List, [], ◌∷◌, Some, None, Option, IfSome, length, get_or, slice_get, refl, sym, ap, ap₂, ◌∙◌, subst, arith}
+use Rattle.std.proofs.Common.{◌≡◌, inl, inr, ℕ, zero, suc, ◌+◌, ◌<◌, ◌≤◌, ℤ, List, [], ◌∷◌, Option, IfSome, length, get_or, slice_get, refl, sym, ap, ap₂, ◌∙◌, subst, arith}
 use Rattle.std.specs.Ordering.{ordering_then, ordering_reverse, int_cmp}
 use Rattle.std.specs.declared.cmp.Ordering.{Ordering}
 use Rattle.std.specs.declared.cmp.Ordering.TheVariants.{Less, Equal, Greater}

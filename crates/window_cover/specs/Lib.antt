@@ -9,11 +9,14 @@ pub mod Admitted
 pub mod SearchLaws
 pub mod Limits
 pub mod Causes
+pub mod Ends
 pub mod InOrder
 pub mod Kept
 pub mod Stepping
 pub mod Searched
 pub mod Keys
+pub mod InKeyOrder
+pub mod KindCounts
 pub mod Words
 pub mod Lifted
 pub mod Covered

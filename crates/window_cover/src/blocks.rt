@@ -10,12 +10,16 @@ use crate::block::Block;
 use crate::cover::Cover;
 use cyclo_points::motion::Motion;
 use cyclo_points::point::Point;
+use plane_geom::window::Window;
 use std::alloc::Global;
 use tile_place::machine::Machine;
 use tile_shape::no_memory::NoMemory;
 use tile_shape::step::Step;
 use window_descent::part::Part;
 use window_descent::rows::Rows;
+
+/// The greatest number of leaves of a block.
+const MOST_LEAVES: usize = 100;
 
 /// The number of places for blocks: one for each level from 0 to 6, kind and turn.
 const PLACES: usize = 7 * 256;
@@ -31,13 +35,13 @@ pub(crate) struct Blocks {
 }
 
 impl Blocks {
-    /// Makes the index, without any block. Its height is the highest level at which no block has more than a
-    /// hundred leaves.
-    pub(crate) fn new(alloc: Global, machine: &Machine) -> Result<Blocks, NoMemory>
+    /// Makes the index for a window, without any block. Its height is the highest level at which no block has
+    /// too many leaves for the window.
+    pub(crate) fn new(alloc: Global, machine: &Machine, window: &Window) -> Result<Blocks, NoMemory>
         ensures { IfOk result (AreBlocks machine.now []) }
     {
         Ok(Blocks {
-            height: height_for(most_children(machine)),
+            height: height_for(most_children(machine), most_leaves(window)),
             blocks: vec![in alloc; None; PLACES]?,
         })
     }
@@ -135,18 +139,26 @@ fn are_near(leaves: &Cover, first: u32, end: u32, depth: u8) -> bool
     true
 }
 
-/// Returns the highest level, at most 6, at which no supertile has more than a hundred tiles. It is computed
-/// from the greatest number of children.
-fn height_for(most_children: usize) -> u8
+/// Returns the highest level, at most 6, at which no supertile has more than `most` tiles. It is computed from
+/// the greatest number of children.
+fn height_for(most_children: usize, most: usize) -> u8
     ensures { result ≤ 6 }
 {
-    match most_children {
-        0..=2 => 6,
-        3 => 4,
-        4 => 3,
-        5..=10 => 2,
-        _ => 1,
+    let mut tiles: usize = 1;
+    for height in 0..6 {
+        tiles = tiles.saturating_mul(most_children);
+        if tiles > most {
+            return height;
+        }
     }
+    6
+}
+
+/// Returns the greatest number of leaves of a block that serves a window. A small window has few tiles that
+/// could share the leaves of a large block.
+fn most_leaves(window: &Window) -> usize {
+    let extents = u32::from(window.w) + u32::from(window.h);
+    (extents as usize / 4).min(MOST_LEAVES)
 }
 
 /// Returns the greatest number of children that a kind has.

@@ -15,7 +15,7 @@ ghost use Rattle.window_cover.specs.Windows.{IsWindow};
 use crate::blocks::Blocks;
 use crate::border::Border;
 use crate::cover::Cover;
-use crate::covered_tiles::CoveredTiles;
+use crate::found_tiles::FoundTiles;
 use crate::runs::Runs;
 use arrayvec::ArrayVec;
 use lazy_walk::ancestor::Ancestor;
@@ -33,7 +33,7 @@ use window_descent::rows::Rows;
 /// The least product of half-width and half-height, in units, for which the descent is used. In a smaller
 /// window most tiles are near a side, and each of these needs exact tests. There a search across edges is
 /// cheaper.
-const LEAST_EXTENTS: u32 = 500;
+const LEAST_EXTENTS: u32 = 180;
 
 /// Finds the tiles of a window by a pruned descent from the first ancestor of the base that holds it. The
 /// frame grows to that ancestor.
@@ -45,7 +45,7 @@ pub(crate) fn by_descent(
     machine: &Machine,
     frame: &mut Frame,
     window: &Window,
-) -> Result<Option<CoveredTiles>, NoMemory>
+) -> Result<Option<FoundTiles>, NoMemory>
     requires frame { IsFrameOf (tiling_of machine.now) frame.old }
     requires window_fits { IsWindow window.now }
     ensures frame { GrowsTo (tiling_of machine.now) frame.old frame.new }
@@ -67,7 +67,7 @@ pub(crate) fn by_descent(
         return Ok(None);
     }
     match found_below(alloc, machine, frame, window, &top)? {
-        Some(runs) => Ok(Some(runs.arranged(alloc, frame)?)),
+        Some(runs) => Ok(Some(runs.arranged(alloc, frame))),
         None => Ok(None),
     }
 }
@@ -117,7 +117,7 @@ fn found_below(
         child: 0,
         parent: 0,
     }; 64];
-    let mut blocks = Blocks::new(alloc, machine)?;
+    let mut blocks = Blocks::new(alloc, machine, window)?;
     let mut runs = Runs::new(alloc, nothing_found(alloc, window));
     let done = runs.gather(
         machine,

@@ -1,4 +1,4 @@
-//! Returns the tiles found, in order.
+//! Returns the tiles found.
 ghost use Rattle.std.specs.Prelude.{◌≡◌, All, [], length, map, IfOk};
 ghost use Rattle.std.specs.List.Sorted.{IsPermutation};
 ghost use Rattle.rule_model.specs.declared.rule.Rule.{Rule};
@@ -14,7 +14,7 @@ ghost use Rattle.window_cover.specs.Right.{IsRight};
 ghost use Rattle.window_cover.specs.Windows.{AreDrawn, CoverWindow};
 
 use crate::cover::Cover;
-use crate::covered_tiles::CoveredTiles;
+use crate::found_tiles::FoundTiles;
 use crate::laws::end_laws;
 use crate::runs::Runs;
 use lazy_walk::frame::Frame;
@@ -47,12 +47,13 @@ impl Cover {
         ensures in_order { IfOk result (λ tiles. (r : Rule) → IsCheckedRule r
             → IsRight (tiling_of r) frame.now self → AreInOrder tiles.items) }
     {
-        let tiles = self.arranged(alloc, frame)?;
+        let found = self.arranged(alloc, frame)?;
+        let tiles = found.in_order()?;
         tiles.listed(alloc)
     }
 
-    /// Like [`finish`](Self::finish), but the tiles are to be read one at a time, and need less memory.
-    pub fn arranged(self, alloc: Global, frame: &Frame) -> Result<CoveredTiles, NoMemory>
+    /// Like [`finish`](Self::finish), but the tiles are left as they were found.
+    pub fn arranged(self, alloc: Global, frame: &Frame) -> Result<FoundTiles, NoMemory>
         requires none_open { self.border ≡ [] }
         requires no_deeper { All (CanBeLifted frame.now) self.found }
         // Each tile comes as often as it was found. The frame's digits follow its own.
@@ -79,6 +80,6 @@ impl Cover {
         end_laws();
         grown_fits_law();
         let runs = Runs::of(alloc, self)?;
-        runs.arranged(alloc, frame)
+        Ok(runs.arranged(alloc, frame))
     }
 }

@@ -43,5 +43,7 @@ fn overwrite(digits: &mut [Step], fine: &[Step], middle: &[Step], coarse: &[Step
     let to = from + middle.len();
     digits[..from].copy_from_slice(fine);
     digits[from..to].copy_from_slice(middle);
-    digits[to..].copy_from_slice(coarse);
+    if to < digits.len() {
+        digits[to..].copy_from_slice(coarse);
+    }
 }

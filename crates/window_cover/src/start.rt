@@ -1,13 +1,11 @@
 //! Finds the tile at the centre of a window.
-ghost use Rattle.std.specs.Prelude.{◌≡◌, ◌⊎◌, ◌<◌, ◌≤◌, ℕ, length, IsOk, Err, IfOk, IfErr};
+ghost use Rattle.std.specs.Prelude.{◌≡◌, ◌<◌, ◌≤◌, ℕ, length, IfOk};
 ghost use Rattle.rule_model.specs.Tiling.{tiling_of};
 ghost use Rattle.cyclo_points.specs.Point.{point_in};
 ghost use Rattle.theory_walks.specs.Containing.{FrameHolds};
-ghost use Rattle.theory_walks.specs.Frames.{at_depth, IsFrameOf, GrowsTo};
-ghost use Rattle.window_cover.specs.declared.cover_fault.CoverFault.TheVariants.{NoMemory};
-ghost use Rattle.window_cover.specs.Windows.{IsWindow, IsLeastForWindow};
-ghost use Rattle.window_cover.specs.Limits.{IsCoverWithinLimits};
-ghost use Rattle.window_cover.specs.Causes.{HasCoverCause};
+ghost use Rattle.theory_walks.specs.Frames.{at_depth, IsFrameOf};
+ghost use Rattle.window_cover.specs.Ends.{CoversTo};
+ghost use Rattle.window_cover.specs.Windows.{IsWindow};
 ghost use Rattle.window_cover.specs.Right.{IsRight};
 ghost use Rattle.window_cover.specs.Searched.{HasBegun};
 
@@ -34,7 +32,8 @@ impl Cover {
     ) -> Result<Cover, CoverFault>
         requires frame { IsFrameOf (tiling_of machine.now) frame.old }
         requires window_fits { IsWindow window.now }
-        ensures frame { GrowsTo (tiling_of machine.now) frame.old frame.new }
+        // The call ends as [`cover`](crate::tiles_of_window::cover) does.
+        ensures ends { CoversTo (tiling_of machine.now) frame.old frame.new window.now result }
         ensures right { IfOk result (λ cover. IsRight (tiling_of machine.now) frame.new cover) }
         ensures one_tile { IfOk result (λ cover. length cover.found ≡ 1) }
         ensures begun { IfOk result (HasBegun (tiling_of machine.now) frame.old window.now) }
@@ -42,12 +41,6 @@ impl Cover {
         ensures least { (n : ℕ) → length frame.old.digits ≤ n → n < length frame.new.digits
             → ¬ FrameHolds (tiling_of machine.now) (at_depth (tiling_of machine.now) n frame.old)
             (point_in machine.now.order window.now.centre) }
-        ensures not_beyond { (n : ℕ) → IsLeastForWindow (tiling_of machine.now) frame.old window.now n
-            → length frame.new.digits ≤ n }
-        ensures answered { IsCoverWithinLimits (tiling_of machine.now) frame.old window.now
-            → (result ≡ Err NoMemory) ⊎ IsOk result }
-        ensures cause { IfErr result (λ fault. HasCoverCause (tiling_of machine.now) frame.old frame.new
-            window.now fault) }
     {
         let checked = machine.checked();
         let order = checked.order();

@@ -10,12 +10,14 @@ ghost use Rattle.window_cover.specs.Limits.{IsCoverWithinLimits};
 ghost use Rattle.window_cover.specs.Causes.{HasCoverCause};
 ghost use Rattle.window_cover.specs.InOrder.{AreInOrder};
 ghost use Rattle.window_cover.specs.Answered.{IsAnswered};
+ghost use Rattle.window_cover.specs.Ends.{CoversTo};
 ghost use Rattle.window_cover.specs.Searched.{HasClosed};
 
-use crate::by_descent::by_descent;
 use crate::cover::{Cover, no_tile};
 use crate::cover_fault::CoverFault;
 use crate::covered_tiles::CoveredTiles;
+use crate::find_tiles::find_tiles;
+use crate::found_tiles::FoundTiles;
 use crate::laws::end_laws;
 use edge_tables::steps::Steps;
 use lazy_walk::frame::Frame;
@@ -83,7 +85,8 @@ pub fn cover(
         (λ fault. HasCoverCause (tiling_of machine.now) frame.old frame.new window.now
         fault) }
 {
-    let tiles = by_search(alloc, machine, frame, window)?;
+    let found = by_search(alloc, machine, frame, window)?;
+    let tiles = found.in_order()?;
     Ok(tiles.listed(alloc)?)
 }
 
@@ -125,45 +128,23 @@ pub fn covered_tiles(
         (λ fault. HasCoverCause (tiling_of machine.now) frame.old frame.new window.now
         fault) }
 {
-    let mut grown = frame.copy()?;
-    match by_descent(alloc, machine, &mut grown, window)? {
-        Some(tiles) => {
-            *frame = grown;
-            Ok(tiles)
-        }
-        None => by_search(alloc, machine, frame, window),
-    }
+    let found = find_tiles(alloc, machine, frame, window)?;
+    Ok(found.in_order()?)
 }
 
-/// Like [`covered_tiles`], by a search from the tile at the centre. It crosses the open edges by tile, in the
+/// Like [`find_tiles`], by a search from the tile at the centre. It crosses the open edges by tile, in the
 /// order in which tiles were found, and then by number of the edge.
-fn by_search(
+pub(crate) fn by_search(
     alloc: Global,
     machine: &Machine,
     frame: &mut Frame,
     window: &Window,
-) -> Result<CoveredTiles, CoverFault>
+) -> Result<FoundTiles, CoverFault>
     requires frame { IsFrameOf (tiling_of machine.now) frame.old }
     requires window_fits { IsWindow window.now }
 
-    ensures frame { GrowsTo (tiling_of machine.now) frame.old frame.new }
-
-    // Exactly the tiles of the frame that meet the window, each exactly once and in its place. The depth is
-    // the least that is enough, and the tiles cover the window.
+    ensures ends { CoversTo (tiling_of machine.now) frame.old frame.new window.now result }
     ensures found { IfOk result (IsAnswered (tiling_of machine.now) frame.old frame.new window.now) }
-
-    // Even on an error the frame is no deeper than is enough for the window.
-    ensures not_beyond { (n : ℕ) → IsLeastForWindow (tiling_of machine.now) frame.old window.now n
-        → length frame.new.digits ≤ n }
-
-    // The call succeeds if and only if the window is within the limits, unless memory runs out. Each error
-    // comes only for its cause.
-    ensures answered { IsCoverWithinLimits (tiling_of machine.now) frame.old window.now
-        → (result ≡ Err NoMemory)
-        ⊎ IsOk result }
-    ensures cause { IfErr result
-        (λ fault. HasCoverCause (tiling_of machine.now) frame.old frame.new window.now
-        fault) }
 {
     end_laws();
     grown_fits_law();
@@ -189,16 +170,8 @@ fn searched<L: Ledger>(
     requires some { 0 < blank.parts }
     requires frame { IsFrameOf (tiling_of machine.now) frame.old }
     requires window_fits { IsWindow window.now }
-    ensures frame { GrowsTo (tiling_of machine.now) frame.old frame.new }
+    ensures ends { CoversTo (tiling_of machine.now) frame.old frame.new window.now result }
     ensures ended { IfOk result (HasClosed (tiling_of machine.now) frame.old frame.new window.now) }
-    ensures not_beyond { (n : ℕ) → IsLeastForWindow (tiling_of machine.now) frame.old window.now n
-        → length frame.new.digits ≤ n }
-    ensures answered { IsCoverWithinLimits (tiling_of machine.now) frame.old window.now
-        → (result ≡ Err NoMemory)
-        ⊎ IsOk result }
-    ensures cause { IfErr result
-        (λ fault. HasCoverCause (tiling_of machine.now) frame.old frame.new window.now
-        fault) }
 {
     let mut steps = Steps::<L>::new(blank);
     let mut cover = Cover::start(alloc, machine, frame, window)?;

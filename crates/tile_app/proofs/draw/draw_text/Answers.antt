@@ -10,14 +10,14 @@ use Rattle.rule_model.specs.declared.rule.Rule.{Rule}
 use Rattle.rule_model.specs.Tiling.{tiling_of}
 use Rattle.tile_app.specs.Draw.{texts_of, PrintsDraw, DrawRefuses}
 use Rattle.tile_app.specs.LayerTexts.{FirstHasDrawn, HaveText, IsTextOf}
-use Rattle.tile_app.specs.Pictured.{picture_of}
+use Rattle.tile_app.specs.Drawings.{tiles_drawn}
 use Rattle.call_notes.specs.Status.{OrNoMemory}
 use Rattle.tile_app.specs.Windows.{window_asked}
 use Rattle.tile_app.proofs.draw.draw_text.Goals as goal
 
 -- the window is the one that is asked for
-pub returns-in_err-picture-clause-refused : goal.returns-in_err-picture-clause-refused
-returns-in_err-picture-clause-refused g c =
+pub returns-in_err-drawing-clause-refused : goal.returns-in_err-drawing-clause-refused
+returns-in_err-drawing-clause-refused g c =
     let t = tiling_of c.args.machine.now in
     let f = c.args.frame.now in
     let asked = window_of c.args.asked.now in
@@ -25,7 +25,7 @@ returns-in_err-picture-clause-refused g c =
     let window = c.window_in-window.ensures.window ∙ ap (λ o. window_asked o asked) order in
     let h = subst (λ w. IfErr c.pictured.result (OrNoMemory (DrawRefuses c.args.whole t f w))) window c.pictured.ensures.refused in
     let p = err_from_is_err_and c.from_residual.result c.from_residual.ensures.1 in
-    rw (p.1, p.2) (subst (λ r. IfErr r (OrNoMemory (DrawRefuses c.args.whole t f (window_asked t.order asked)))) c.in_err-picture.was h)
+    rw (p.1, p.2) (subst (λ r. IfErr r (OrNoMemory (DrawRefuses c.args.whole t f (window_asked t.order asked)))) c.in_err-drawing.was h)
 
 pub draw_formats-requires-clause-have_layers : goal.draw_formats-requires-clause-have_layers
 draw_formats-requires-clause-have_layers g c =
@@ -56,12 +56,12 @@ returns-clause-printed g c =
     let formats = c.args.formats.now.items in
     let order = c.order.ensures.order ∙ ap (λ (r : Rule). r.order) c.checked.ensures.rule in
     let window = c.window_in-window.ensures.window ∙ ap (λ o. window_asked o asked) order in
-    let picture = picture_of t c.in_ok-picture.picture in
+    let picture = tiles_drawn t c.in_ok-drawing.drawing in
     let view = c.view_of-view.result in
     let text = texts_of view picture formats in
     let prints : PrintsDraw c.args.whole formats t f c.window_in-window.result text = record {
       picture = picture;
-      pictures = c.in_ok-picture.ensures.pictures;
+      pictures = c.in_ok-drawing.ensures.pictures;
       is_text = ap (λ v. texts_of v picture formats) c.view_of-view.ensures;
     } in
     let layers = c.draw_formats.new.layers in

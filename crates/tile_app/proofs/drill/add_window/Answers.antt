@@ -4,7 +4,7 @@ use Rattle.window_cover.specs.declared.cover_fault.CoverFault.TheVariants.{NoMem
 use Rattle.window_cover.specs.Windows.{IsLeastForWindow}
 use Rattle.tile_app.specs.declared.summary.Summary.{Summary}
 use Rattle.tile_app.specs.Drill.{IsCovered}
-use Rattle.tile_app.proofs.Drawing.{at_most_limit, fault-or_ok}
+use Rattle.tile_app.proofs.Covering.{at_most_limit, fault-or_ok}
 use Rattle.tile_app.proofs.drill.add_window.Goals as goal
 
 -- ---- a window that is covered
@@ -12,36 +12,36 @@ pub overflow_cast-count : goal.overflow_cast-count
 overflow_cast-count c =
     let x = c.in-Ok.ensures in
     let few = at_most_limit
-    (tiling_of c.args.machine.now) c.args.frame.now c.covered_tiles.new.frame c.args.window.now
-    c.requires.frame x.frame x.within x.least c.in-Ok.tiles x.drawn in
+    (tiling_of c.args.machine.now) c.args.frame.now c.find_tiles.new.frame c.args.window.now
+    c.requires.frame x.ends.frame x.found.within x.found.least c.in-Ok.tiles x.found.drawn in
     omega (arith, few, c.len-count.ensures)
 
 pub add-requires : goal.add-requires
 add-requires c =
     let x = c.in-Ok.ensures in
     let few = at_most_limit
-    (tiling_of c.args.machine.now) c.args.frame.now c.covered_tiles.new.frame c.args.window.now
-    c.requires.frame x.frame x.within x.least c.in-Ok.tiles x.drawn in
+    (tiling_of c.args.machine.now) c.args.frame.now c.find_tiles.new.frame c.args.window.now
+    c.requires.frame x.ends.frame x.found.within x.found.least c.in-Ok.tiles x.found.drawn in
     record { few_tiles = omega (arith, few, c.len-count.ensures) }
 
 pub returns-in-Ok-clause-adds : goal.returns-in-Ok-clause-adds
 returns-in-Ok-clause-adds c =
     let t = tiling_of c.args.machine.now in
     let f = c.args.frame.now in
-    let g = c.covered_tiles.new.frame in
+    let g = c.find_tiles.new.frame in
     let x = c.in-Ok.ensures in
     let count = c.len-count in
     let depth = c.depth in
     let covered : IsCovered t f c.args.window.now count.result depth.result = record {
-      within = x.within;
+      within = x.found.within;
       later = g;
-      grown = x.frame;
+      grown = x.ends.frame;
       its_depth = depth.ensures.digits;
-      least = subst (IsLeastForWindow t f c.args.window.now) (sym depth.ensures.digits) x.least;
+      least = subst (IsLeastForWindow t f c.args.window.now) (sym depth.ensures.digits) x.found.least;
       tiles = c.in-Ok.tiles;
-      stand = x.stand;
-      drawn = x.drawn;
-      in_order = x.in_order;
+      stand = x.found.stand;
+      drawn = x.found.drawn;
+      in_order = x.found.in_order;
       its_count = count.ensures;
     } in
     inl (count.result, depth.result, covered, c.add.ensures)
@@ -50,8 +50,8 @@ pub returns-in-Ok-clause-most_tiles_more : goal.returns-in-Ok-clause-most_tiles_
 returns-in-Ok-clause-most_tiles_more c =
     let x = c.in-Ok.ensures in
     let few = at_most_limit
-    (tiling_of c.args.machine.now) c.args.frame.now c.covered_tiles.new.frame c.args.window.now
-    c.requires.frame x.frame x.within x.least c.in-Ok.tiles x.drawn in
+    (tiling_of c.args.machine.now) c.args.frame.now c.find_tiles.new.frame c.args.window.now
+    c.requires.frame x.ends.frame x.found.within x.found.least c.in-Ok.tiles x.found.drawn in
     omega (arith, few, c.len-count.ensures, ap (λ (s : Summary). s.tiles) c.add.ensures)
 
 pub returns-in-Ok-clause-one_refused_more : goal.returns-in-Ok-clause-one_refused_more
@@ -64,7 +64,7 @@ returns-in_default c =
     record {
       adds = inr (
         λ h. absurd (other
-            (fault-or_ok NoMemory c.covered_tiles.result c.in-Err.fault c.in-Err.is (c.covered_tiles.ensures.answered h))),
+            (fault-or_ok NoMemory c.find_tiles.result c.in-Err.fault c.in-Err.is (c.find_tiles.ensures.ends.answered h))),
         c.add_refused.ensures,
       );
       most_tiles_more = omega (arith, ap (λ (s : Summary). s.tiles) c.add_refused.ensures);

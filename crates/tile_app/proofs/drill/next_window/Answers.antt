@@ -3,7 +3,7 @@ use Rattle.cyclo_points.proofs.Within.{point_wider}
 use Rattle.seeded_growth.specs.Words.{word}
 use Rattle.tile_app.specs.Windows.{reduced}
 use Rattle.tile_app.specs.Drill.{extent_of}
-use Rattle.tile_app.proofs.Drawing.{reduced-is}
+use Rattle.tile_app.proofs.Covering.{reduced-is}
 use Rattle.tile_app.proofs.drill.next_window.Goals as goal
 
 pub reduce-requires : goal.reduce-requires

@@ -1,6 +1,6 @@
 use Rattle.std.proofs.Common.{◌≡◌, ◌*◌, ◌^◌, length, lit≤, rules}
 use Rattle.cyclo_points.proofs.Within.{point_wider}
-use Rattle.tile_app.proofs.Drawing.{reduced-is}
+use Rattle.tile_app.proofs.Covering.{reduced-is}
 use Rattle.tile_app.proofs.Windows.{window_made}
 use Rattle.tile_app.proofs.window.window_in.Goals as goal
 

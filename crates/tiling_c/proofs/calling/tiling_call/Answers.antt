@@ -1,4 +1,4 @@
-use Rattle.std.proofs.Common.{◌≡◌, List, ℕ, length, refl, sym, subst, IsUtf8}
+use Rattle.std.proofs.Common.{◌≡◌, List, ℕ, length, sym, subst, IsUtf8}
 use Rattle.tiling_c.specs.Calling.{EndsWith, call_in}
 use Rattle.tiling_c.specs.Opening.{HoldsText}
 use Rattle.tiling_c.proofs.CallShown.{is_noted, shows_no_text, shows_no_memory, shows_printed, shows_noted}

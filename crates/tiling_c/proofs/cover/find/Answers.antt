@@ -1,5 +1,5 @@
 use Rattle.rule_model.specs.Tiling.{tiling_of}
-use Rattle.tile_app.proofs.Drawing.{at_most_limit}
+use Rattle.tile_app.proofs.Covering.{at_most_limit}
 use Rattle.tiling_c.proofs.Covers.{ended_within}
 use Rattle.tiling_c.proofs.cover.find.Goals as goal
 

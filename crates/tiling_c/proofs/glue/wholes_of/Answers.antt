@@ -1,7 +1,7 @@
 use Rattle.std.proofs.Common.{inl, inr, arith}
 use Rattle.std.proofs.lemmas.Result.{IfOk-weaker, IfErr-weaker, err_from_is_err_and}
 use Rattle.rule_model.specs.Tiling.{tiling_of}
-use Rattle.tile_app.proofs.Drawing.{can_be_drawn}
+use Rattle.tile_app.proofs.Covering.{can_be_drawn}
 use Rattle.tile_app.proofs.Gluing.{may-be-given}
 use Rattle.window_cover.specs.Windows.{box_of}
 use Rattle.c_values.specs.Windows.{window_in}

@@ -1,4 +1,4 @@
-use Rattle.std.proofs.Common.{◌≡◌, List, None, IsSome, inl, inr, map, refl, sym, ap, ◌∙◌, subst}
+use Rattle.std.proofs.Common.{◌≡◌, List, None, IsSome, inl, inr, map, refl, sym, ◌∙◌, subst}
 use Rattle.cyclo_points.specs.Motion.{motion_in}
 use Rattle.rule_model.specs.Tiling.{tiling_of, IsPlaced}
 use Rattle.tile_place.specs.Placing.{first_refused}

@@ -41,8 +41,8 @@ arranged-requires-clause-no_deeper c =
     let found = subst (λ x. IfSome x (λ runs. AreRuns runs × IsFoundBelow t g w (gathered runs))) c.in-Some-2.is c.in_ok-runs.ensures in
     can-be-lifted m settled fits f g grows w c.requires.window_fits (gathered c.in-Some-2.runs) found.1 first
 
-pub returns-in_ok-arranged-in-Some-2-clause-answered : goal.returns-in_ok-arranged-in-Some-2-clause-answered
-returns-in_ok-arranged-in-Some-2-clause-answered c =
+pub returns-in-Some-2-clause-answered : goal.returns-in-Some-2-clause-answered
+returns-in-Some-2-clause-answered c =
     let m = c.args.machine.now in
     let t = tiling_of m in
     let f = c.args.frame.now in
@@ -62,9 +62,9 @@ returns-in_ok-arranged-in-Some-2-clause-answered c =
     let found = subst (λ x. IfSome x (λ runs. AreRuns runs × IsFoundBelow t g w (gathered runs))) c.in-Some-2.is c.in_ok-runs.ensures in
     let own = gathered c.in-Some-2.runs in
     let can = can-be-lifted m settled fits f g grows w c.requires.window_fits own found.1 first in
-    let tiles = c.in_ok-arranged-in-Some-2.field-0 in
-    answered m settled fits f g grows w c.requires.window_fits own found.1 first tiles (are-lifted g own can tiles c.in_ok-arranged-in-Some-2.ensures)
-    (are-distinct g own can tiles c.in_ok-arranged-in-Some-2.ensures)
+    let tiles = c.arranged.result in
+    answered m settled fits f g grows w c.requires.window_fits own found.1 first tiles (are-lifted g own can tiles c.arranged.ensures)
+    (are-distinct g own can tiles c.arranged.ensures)
     (c.is_contained.ensures.found c.if-not-is_contained.false)
 
 pub arranged-requires-clause-runs : goal.arranged-requires-clause-runs

@@ -11,11 +11,10 @@ use Rattle.window_cover.specs.Windows.{AreDrawn, CoverWindow}
 use Rattle.window_cover.proofs.Arranged.{right-lifted}
 use Rattle.window_cover.proofs.Ended.{not-beyond, ended-least, ended-within}
 use Rattle.window_cover.proofs.Finished.{laws_of}
-use Rattle.theory_walks.proofs.Outcomes.{if_err-is}
 use Rattle.window_cover.specs.Packed.{packed}
 use Rattle.window_cover.specs.Working.{working}
 use Rattle.window_cover.proofs.Works.{works}
-use Rattle.window_cover.proofs.Outcomes.{no_memory-on, only_memory}
+use Rattle.window_cover.proofs.HandedOn.{handed_on, out_of_memory, came_to}
 use Rattle.window_cover.proofs.Searches.{checked_of}
 use Rattle.window_cover.proofs.tiles_of_window.by_search.Goals as goal
 
@@ -23,16 +22,18 @@ pub arranged-requires-clause-no_deeper : goal.arranged-requires-clause-no_deeper
 arranged-requires-clause-no_deeper c = right-lifted (tiling_of c.args.machine.now) c.searched.new.frame
     c.in_ok-cover.cover c.in_ok-cover.ensures.ended.right
 
-pub returns-in_err-cover-clause-answered : goal.returns-in_err-cover-clause-answered
-returns-in_err-cover-clause-answered c = λ h. no_memory-on c.searched.result c.from_residual.result
-    c.in_err-cover.field-0.0 c.in_err-cover.was c.from_residual.ensures.1 (c.searched.ensures.answered h)
+pub returns-in_err-cover-clause-ends : goal.returns-in_err-cover-clause-ends
+returns-in_err-cover-clause-ends c = handed_on (tiling_of c.args.machine.now) c.args.frame.now c.searched.new.frame c.args.window.now
+    c.searched.result c.from_residual.result c.in_err-cover.field-0.0 c.in_err-cover.was c.from_residual.ensures.1 c.searched.ensures.ends
 
-pub returns-in_err-cover-clause-cause : goal.returns-in_err-cover-clause-cause
-returns-in_err-cover-clause-cause c = if_err-is _ c.from_residual.result c.in_err-cover.field-0.0
-    c.from_residual.ensures.1 c.in_err-cover.ensures.cause
+pub returns-in_err-arranged-clause-ends : goal.returns-in_err-arranged-clause-ends
+returns-in_err-arranged-clause-ends c = out_of_memory (tiling_of c.args.machine.now) c.args.frame.now c.searched.new.frame c.args.window.now
+    c.from_residual-in_err-arranged.result c.from_residual-in_err-arranged.ensures.1 c.searched.ensures.ends.frame
+    c.searched.ensures.ends.not_beyond
 
-pub returns-in_err-arranged-clause-answered : goal.returns-in_err-arranged-clause-answered
-returns-in_err-arranged-clause-answered c = λ h. only_memory c.from_residual-in_err-arranged.result c.from_residual-in_err-arranged.ensures.1
+pub returns-clause-ends : goal.returns-clause-ends
+returns-clause-ends c = came_to (tiling_of c.args.machine.now) c.args.frame.now c.searched.new.frame c.args.window.now c.in_ok-arranged.field-0
+    c.searched.ensures.ends.frame c.searched.ensures.ends.not_beyond
 
 pub returns-in_err-cover-clause-found : goal.returns-in_err-cover-clause-found
 returns-in_err-cover-clause-found c = IfOk-from_err c.from_residual.result _ c.from_residual.ensures.0
@@ -58,7 +59,8 @@ returns-clause-found c =
     let state = working c.in_ok-cover.cover in
     let work = works (tiling_of m) laws.open_test g c.in_ok-cover.cover ended.right in
     let none_open = ap (map packed) ended.none_open in
-    let beyond = not-beyond m laws least f g c.searched.ensures.frame w state work c.in_ok-cover.ensures.not_beyond c.requires.frame.at_most_64 in
+    let search = c.searched.ensures.ends in
+    let beyond = not-beyond m laws least f g search.frame w state work search.not_beyond c.requires.frame.at_most_64 in
     record {
       drawn = subst (λ w. AreDrawn (tiling_of m) g w (map (placed_in m.order) c.in_ok-arranged.field-0)) ended.begun.its_window
           (c.in_ok-arranged.ensures.drawn m checked ended.right);
@@ -66,21 +68,15 @@ returns-clause-found c =
       in_order = c.in_ok-arranged.ensures.in_order m checked ended.right;
       covered = subst (λ w. CoverWindow (tiling_of m) g w (map (placed_in m.order) c.in_ok-arranged.field-0)) ended.begun.its_window
           (c.in_ok-arranged.ensures.covered m checked ended.right);
-      least = ended-least m laws f g c.searched.ensures.frame w state work ended.begun.its_window none_open beyond c.requires.frame.at_most_64;
+      least = ended-least m laws f g c.searched.ensures.ends.frame w state work ended.begun.its_window none_open beyond c.requires.frame.at_most_64;
       within = record {
         centre_found = ended.begun.centre_found;
-        drawn_within = ended-within m laws f g c.searched.ensures.frame w state work ended.begun.its_window none_open beyond
+        drawn_within = ended-within m laws f g c.searched.ensures.ends.frame w state work ended.begun.its_window none_open beyond
             c.requires.frame.at_most_64 ends;
       };
     }
 
 -- ---- the rest is plain, and stands here since the records are large
-pub returns-in_err-cover-clause-frame : goal.returns-in_err-cover-clause-frame
-returns-in_err-cover-clause-frame c = c.in_err-cover.ensures.frame
-
-pub returns-in_err-cover-clause-not_beyond : goal.returns-in_err-cover-clause-not_beyond
-returns-in_err-cover-clause-not_beyond c = c.in_err-cover.ensures.not_beyond
-
 pub end_laws-requires : goal.end_laws-requires
 end_laws-requires c = grind (arith, common_steps)
 
@@ -119,12 +115,3 @@ searched-requires-clause-window_fits c = grind (arith, common_steps)
 
 pub arranged-requires-clause-none_open : goal.arranged-requires-clause-none_open
 arranged-requires-clause-none_open c = grind (arith, common_steps)
-
-pub returns-clause-not_beyond : goal.returns-clause-not_beyond
-returns-clause-not_beyond c = grind (arith, common_steps)
-
-pub returns-clause-answered : goal.returns-clause-answered
-returns-clause-answered c = grind (arith, common_steps)
-
-pub returns-clause-cause : goal.returns-clause-cause
-returns-clause-cause c = grind (arith, common_steps)

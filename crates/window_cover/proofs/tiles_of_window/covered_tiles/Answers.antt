@@ -1,71 +1,50 @@
-use Rattle.std.proofs.Common.{◌≡◌, IfSome, List, Option, Some, subst}
-use Rattle.std.proofs.lemmas.Result.{IfOk-weaker}
-use Rattle.plane_geom.specs.declared.window.Window.{Window}
-use Rattle.rule_model.specs.Tiling.{Tiling, tiling_of}
-use Rattle.tile_place.specs.declared.placed_tile.PlacedTile.{PlacedTile}
-use Rattle.theory_walks.specs.Frames.{FrameValue, GrowsTo}
-use Rattle.window_cover.specs.Answered.{IsAnswered}
-use Rattle.window_cover.proofs.Outcomes.{only_memory}
+use Rattle.std.proofs.Common.{All, map, sym, subst}
+use Rattle.rule_model.specs.Tiling.{tiling_of}
+use Rattle.tile_place.specs.Searched.{placed_in}
+use Rattle.lazy_walk.specs.Standing.{Stands}
+use Rattle.window_cover.specs.Causes.{HasCoverCause}
+use Rattle.window_cover.specs.InOrder.{AreInOrder}
+use Rattle.window_cover.specs.Windows.{AreDrawn, CoverWindow}
+use Rattle.window_cover.specs.declared.cover_fault.CoverFault.TheVariants.{NoMemory}
+use Rattle.theory_walks.proofs.Outcomes.{if_err-is}
+use Rattle.window_cover.proofs.Outcomes.{no_memory-on, only_memory}
+use Rattle.window_cover.proofs.HandedOn.{handed_on}
 use Rattle.window_cover.proofs.tiles_of_window.covered_tiles.Goals as goal
 
-pub returns-in_err-grown-clause-answered : goal.returns-in_err-grown-clause-answered
-returns-in_err-grown-clause-answered c = λ h. only_memory c.from_residual.result c.from_residual.ensures.1
+pub returns-in_err-found-clause-answered : goal.returns-in_err-found-clause-answered
+returns-in_err-found-clause-answered c = λ h.
+    no_memory-on c.find_tiles.result c.from_residual.result c.in_err-found.field-0.0 c.in_err-found.was
+    c.from_residual.ensures.1 (c.find_tiles.ensures.ends.answered h)
 
-pub returns-in_err-tiles-clause-answered : goal.returns-in_err-tiles-clause-answered
-returns-in_err-tiles-clause-answered c = λ h. only_memory c.from_residual-in_err-tiles.result c.from_residual-in_err-tiles.ensures.1
+pub returns-in_err-found-clause-cause : goal.returns-in_err-found-clause-cause
+returns-in_err-found-clause-cause c =
+    (handed_on (tiling_of c.args.machine.now) c.args.frame.now c.find_tiles.new.frame c.args.window.now c.find_tiles.result c.from_residual.result
+    c.in_err-found.field-0.0 c.in_err-found.was c.from_residual.ensures.1 c.find_tiles.ensures.ends).cause
 
-pub returns-in-Some-clause-frame : goal.returns-in-Some-clause-frame
-returns-in-Some-clause-frame c = subst (λ (f : FrameValue). GrowsTo
-    (tiling_of c.args.machine.now) f c.by_descent.new.frame) c.in_ok-grown.ensures c.by_descent.ensures.frame
+pub returns-in_err-in_order-clause-answered : goal.returns-in_err-in_order-clause-answered
+returns-in_err-in_order-clause-answered c = λ h. only_memory c.from_residual-in_err-in_order.result c.from_residual-in_err-in_order.ensures.1
 
--- what the descent found, of the frame as it was
-found-below : (t : Tiling) (copy old new : FrameValue) (w : Window) (o : Option (List PlacedTile)) (tiles : List PlacedTile)
-    → copy ≡ old → o ≡ Some tiles → IfSome o (IsAnswered t copy new w) → IsAnswered t old new w tiles
-found-below t copy old new w o tiles same is h = subst (λ f. IsAnswered t f new w tiles) same (subst (λ x. IfSome x (IsAnswered t copy new w)) is h)
+pub returns-in_err-in_order-clause-cause : goal.returns-in_err-in_order-clause-cause
+returns-in_err-in_order-clause-cause c =
+    if_err-is (HasCoverCause (tiling_of c.args.machine.now) c.args.frame.now c.find_tiles.new.frame
+    c.args.window.now) c.from_residual-in_err-in_order.result NoMemory
+    c.from_residual-in_err-in_order.ensures.1 tt
 
-pub returns-in-Some-clause-drawn : goal.returns-in-Some-clause-drawn
-returns-in-Some-clause-drawn c = (found-below _ _ _ _ _ _ _ c.in_ok-grown.ensures c.in-Some.is c.in_ok-tiles.ensures.answered).drawn
+pub returns-clause-drawn : goal.returns-clause-drawn
+returns-clause-drawn c =
+    let m = c.args.machine.now in
+    subst (λ ts. AreDrawn (tiling_of m) c.find_tiles.new.frame c.args.window.now (map (placed_in m.order) ts))
+    (sym c.in_ok-in_order.ensures) c.in_ok-found.ensures.found.drawn
 
-pub returns-in-Some-clause-stand : goal.returns-in-Some-clause-stand
-returns-in-Some-clause-stand c = (found-below _ _ _ _ _ _ _ c.in_ok-grown.ensures c.in-Some.is c.in_ok-tiles.ensures.answered).stand
+pub returns-clause-stand : goal.returns-clause-stand
+returns-clause-stand c = subst (All (Stands (tiling_of c.args.machine.now) c.find_tiles.new.frame))
+    (sym c.in_ok-in_order.ensures) c.in_ok-found.ensures.found.stand
 
-pub returns-in-Some-clause-in_order : goal.returns-in-Some-clause-in_order
-returns-in-Some-clause-in_order c = (found-below _ _ _ _ _ _ _ c.in_ok-grown.ensures c.in-Some.is c.in_ok-tiles.ensures.answered).in_order
+pub returns-clause-in_order : goal.returns-clause-in_order
+returns-clause-in_order c = subst AreInOrder (sym c.in_ok-in_order.ensures) c.in_ok-found.ensures.found.in_order
 
-pub returns-in-Some-clause-covered : goal.returns-in-Some-clause-covered
-returns-in-Some-clause-covered c = (found-below _ _ _ _ _ _ _ c.in_ok-grown.ensures c.in-Some.is c.in_ok-tiles.ensures.answered).covered
-
-pub returns-in-Some-clause-least : goal.returns-in-Some-clause-least
-returns-in-Some-clause-least c = (found-below _ _ _ _ _ _ _ c.in_ok-grown.ensures c.in-Some.is c.in_ok-tiles.ensures.answered).least
-
-pub returns-in-Some-clause-within : goal.returns-in-Some-clause-within
-returns-in-Some-clause-within c = (found-below _ _ _ _ _ _ _ c.in_ok-grown.ensures c.in-Some.is c.in_ok-tiles.ensures.answered).within
-
-pub returns-in-None-clause-drawn : goal.returns-in-None-clause-drawn
-returns-in-None-clause-drawn c = IfOk-weaker c.by_search.result _ _ (λ tiles h. h.drawn) c.by_search.ensures.found
-
-pub returns-in-None-clause-stand : goal.returns-in-None-clause-stand
-returns-in-None-clause-stand c = IfOk-weaker c.by_search.result _ _ (λ tiles h. h.stand) c.by_search.ensures.found
-
-pub returns-in-None-clause-in_order : goal.returns-in-None-clause-in_order
-returns-in-None-clause-in_order c = IfOk-weaker c.by_search.result _ _ (λ tiles h. h.in_order) c.by_search.ensures.found
-
-pub returns-in-None-clause-covered : goal.returns-in-None-clause-covered
-returns-in-None-clause-covered c = IfOk-weaker c.by_search.result _ _ (λ tiles h. h.covered) c.by_search.ensures.found
-
-pub returns-in-None-clause-least : goal.returns-in-None-clause-least
-returns-in-None-clause-least c = IfOk-weaker c.by_search.result _ _ (λ tiles h. h.least) c.by_search.ensures.found
-
-pub returns-in-None-clause-within : goal.returns-in-None-clause-within
-returns-in-None-clause-within c = IfOk-weaker c.by_search.result _ _ (λ tiles h. h.within) c.by_search.ensures.found
-
-pub returns-in_err-grown-clause-not_beyond : goal.returns-in_err-grown-clause-not_beyond
-returns-in_err-grown-clause-not_beyond c = λ n enough. enough.not_below
-
-pub returns-in_err-tiles-clause-not_beyond : goal.returns-in_err-tiles-clause-not_beyond
-returns-in_err-tiles-clause-not_beyond c = λ n enough. enough.not_below
-
-pub returns-in-Some-clause-not_beyond : goal.returns-in-Some-clause-not_beyond
-returns-in-Some-clause-not_beyond c = λ n enough.
-    let own = (found-below _ _ _ _ _ _ _ c.in_ok-grown.ensures c.in-Some.is c.in_ok-tiles.ensures.answered).least in
-    own.least n enough.not_below enough.within enough.holds
+pub returns-clause-covered : goal.returns-clause-covered
+returns-clause-covered c =
+    let m = c.args.machine.now in
+    subst (λ ts. CoverWindow (tiling_of m) c.find_tiles.new.frame c.args.window.now
+    (map (placed_in m.order) ts)) (sym c.in_ok-in_order.ensures) c.in_ok-found.ensures.found.covered

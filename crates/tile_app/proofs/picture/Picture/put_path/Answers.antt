@@ -1,4 +1,4 @@
-use Rattle.std.proofs.Common.{◌≡◌, ◌<◌, IfSome, length, map, slice_get, sym, subst}
+use Rattle.std.proofs.Common.{◌<◌, IfSome, length, map, slice_get, sym, subst}
 use Rattle.layer_api.specs.declared.drawn.Drawn.{Drawn}
 use Rattle.rule_model.specs.Tiling.{tiling_of}
 use Rattle.tile_place.specs.declared.placed_tile.PlacedTile.{PlacedTile}

@@ -1,5 +1,4 @@
 use Rattle.std.proofs.Common.{All, List, subst, sym}
-use Rattle.std.proofs.lemmas.Result.{IfOk-weaker}
 use Rattle.rule_model.specs.declared.rule.Rule.{Rule}
 use Rattle.tile_place.specs.declared.placed_tile.PlacedTile.{PlacedTile}
 use Rattle.window_cover.specs.Arranged.{AreArranged}
@@ -26,42 +25,40 @@ arranged-requires-clause-no_deeper c = subst (λ (xs : List Found). All (CanBeLi
 
 pub returns-clause-lifted : goal.returns-clause-lifted
 returns-clause-lifted c =
-    IfOk-weaker c.arranged.result _ _ (λ tiles h. are-lifted c.args.frame.now c.args.self c.requires.no_deeper
-    tiles (its c tiles h)) c.arranged.ensures
+    are-lifted c.args.frame.now c.args.self c.requires.no_deeper
+    c.arranged.result (its c c.arranged.result c.arranged.ensures)
 
 pub returns-clause-sorted : goal.returns-clause-sorted
 returns-clause-sorted c =
-    IfOk-weaker c.arranged.result _ _ (λ tiles h. are-sorted c.args.frame.now c.args.self c.requires.no_deeper
-    tiles (its c tiles h)) c.arranged.ensures
+    are-sorted c.args.frame.now c.args.self c.requires.no_deeper
+    c.arranged.result (its c c.arranged.result c.arranged.ensures)
 
 pub returns-clause-as_many : goal.returns-clause-as_many
 returns-clause-as_many c =
-    IfOk-weaker c.arranged.result _ _ (λ tiles h. are-as_many c.args.frame.now c.args.self
-    c.requires.no_deeper tiles (its c tiles h)) c.arranged.ensures
+    are-as_many c.args.frame.now c.args.self
+    c.requires.no_deeper c.arranged.result (its c c.arranged.result c.arranged.ensures)
 
 pub returns-clause-drawn : goal.returns-clause-drawn
 returns-clause-drawn c =
-    IfOk-weaker c.arranged.result _ _ (λ tiles h r checked right. are-drawn c.args.frame.now c.args.self
-    c.requires.no_deeper tiles (its c tiles h) (laws c) r checked right c.requires.none_open)
-    c.arranged.ensures
+    λ r checked right. are-drawn c.args.frame.now c.args.self
+    c.requires.no_deeper c.arranged.result (its c c.arranged.result c.arranged.ensures) (laws c) r checked right c.requires.none_open
 
 pub returns-clause-covered : goal.returns-clause-covered
 returns-clause-covered c =
-    IfOk-weaker c.arranged.result _ _ (λ tiles h r checked right. are-covered c.args.frame.now c.args.self
-    c.requires.no_deeper tiles (its c tiles h) (laws c) r checked right c.requires.none_open)
-    c.arranged.ensures
+    λ r checked right. are-covered c.args.frame.now c.args.self
+    c.requires.no_deeper c.arranged.result (its c c.arranged.result c.arranged.ensures) (laws c) r checked right c.requires.none_open
 
 pub returns-clause-stand : goal.returns-clause-stand
 returns-clause-stand c =
-    IfOk-weaker c.arranged.result _ _ (λ tiles h r checked right. are-stand c.args.frame.now c.args.self
-    c.requires.no_deeper tiles (its c tiles h) (laws c) r checked right) c.arranged.ensures
+    λ r checked right. are-stand c.args.frame.now c.args.self
+    c.requires.no_deeper c.arranged.result (its c c.arranged.result c.arranged.ensures) (laws c) r checked right
 
 pub returns-clause-in_order : goal.returns-clause-in_order
 returns-clause-in_order c =
-    IfOk-weaker c.arranged.result _ _ (λ tiles h r checked right. are-in_order c.args.frame.now c.args.self
-    c.requires.no_deeper tiles (its c tiles h) (laws c) r checked right) c.arranged.ensures
+    λ r checked right. are-in_order c.args.frame.now c.args.self
+    c.requires.no_deeper c.arranged.result (its c c.arranged.result c.arranged.ensures) (laws c) r checked right
 
 pub returns-clause-distinct_in_order : goal.returns-clause-distinct_in_order
 returns-clause-distinct_in_order c =
-    IfOk-weaker c.arranged.result _ _ (λ tiles h. are-distinct c.args.frame.now c.args.self
-    c.requires.no_deeper tiles (its c tiles h)) c.arranged.ensures
+    are-distinct c.args.frame.now c.args.self
+    c.requires.no_deeper c.arranged.result (its c c.arranged.result c.arranged.ensures)

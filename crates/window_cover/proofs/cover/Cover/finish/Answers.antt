@@ -11,31 +11,33 @@ use Rattle.window_cover.proofs.cover.Cover.finish.Goals as goal
 
 pub returns-clause-lifted : goal.returns-clause-lifted
 returns-clause-lifted c = IfOk-weaker c.listed.result _ _
-    (λ tiles e. subst (IsPermutation (map (placed_as c.args.frame.now.digits) c.args.self.found)) (sym e)
-    c.in_ok-tiles.ensures.lifted) c.listed.ensures
+    (λ tiles e. subst (IsPermutation (map (placed_as c.args.frame.now.digits) c.args.self.found)) (sym (e ∙ c.in_ok-tiles.ensures))
+    c.in_ok-found.ensures.lifted) c.listed.ensures
 
 pub returns-clause-sorted : goal.returns-clause-sorted
-returns-clause-sorted c = IfOk-weaker c.listed.result _ _ (λ tiles e. subst AreSorted (sym e) c.in_ok-tiles.ensures.sorted) c.listed.ensures
+returns-clause-sorted c = IfOk-weaker c.listed.result _ _
+    (λ tiles e. subst AreSorted (sym (e ∙ c.in_ok-tiles.ensures)) c.in_ok-found.ensures.sorted) c.listed.ensures
 
 pub returns-clause-as_many : goal.returns-clause-as_many
-returns-clause-as_many c = IfOk-weaker c.listed.result _ _ (λ tiles e. ap length e ∙ c.in_ok-tiles.ensures.as_many) c.listed.ensures
+returns-clause-as_many c = IfOk-weaker c.listed.result _ _
+    (λ tiles e. ap length (e ∙ c.in_ok-tiles.ensures) ∙ c.in_ok-found.ensures.as_many) c.listed.ensures
 
 pub returns-clause-drawn : goal.returns-clause-drawn
 returns-clause-drawn c = IfOk-weaker c.listed.result _ _
     (λ tiles e r checked right. subst (λ ts. AreDrawn (tiling_of r) c.args.frame.now c.args.self.window
-    (map (placed_in r.order) ts)) (sym e) (c.in_ok-tiles.ensures.drawn r checked right)) c.listed.ensures
+    (map (placed_in r.order) ts)) (sym (e ∙ c.in_ok-tiles.ensures)) (c.in_ok-found.ensures.drawn r checked right)) c.listed.ensures
 
 pub returns-clause-covered : goal.returns-clause-covered
 returns-clause-covered c = IfOk-weaker c.listed.result _ _
     (λ tiles e r checked right. subst (λ ts. CoverWindow (tiling_of r) c.args.frame.now c.args.self.window
-    (map (placed_in r.order) ts)) (sym e) (c.in_ok-tiles.ensures.covered r checked right)) c.listed.ensures
+    (map (placed_in r.order) ts)) (sym (e ∙ c.in_ok-tiles.ensures)) (c.in_ok-found.ensures.covered r checked right)) c.listed.ensures
 
 pub returns-clause-stand : goal.returns-clause-stand
 returns-clause-stand c = IfOk-weaker c.listed.result _ _
-    (λ tiles e r checked right. subst (All (Stands (tiling_of r) c.args.frame.now)) (sym e)
-    (c.in_ok-tiles.ensures.stand r checked right)) c.listed.ensures
+    (λ tiles e r checked right. subst (All (Stands (tiling_of r) c.args.frame.now)) (sym (e ∙ c.in_ok-tiles.ensures))
+    (c.in_ok-found.ensures.stand r checked right)) c.listed.ensures
 
 pub returns-clause-in_order : goal.returns-clause-in_order
 returns-clause-in_order c = IfOk-weaker c.listed.result _ _
-    (λ tiles e r checked right. subst AreInOrder (sym e) (c.in_ok-tiles.ensures.in_order r checked right))
+    (λ tiles e r checked right. subst AreInOrder (sym (e ∙ c.in_ok-tiles.ensures)) (c.in_ok-found.ensures.in_order r checked right))
     c.listed.ensures

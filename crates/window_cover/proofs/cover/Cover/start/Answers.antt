@@ -1,5 +1,5 @@
 use Rattle.std.specs.List.{AllByRecursion}
-use Rattle.std.proofs.Common.{◌≡◌, inl, inr, ℕ, ◌≤◌, List, [], length, map, refl, sym, ap, ap₂, subst, arith}
+use Rattle.std.proofs.Common.{◌≡◌, inl, ℕ, ◌≤◌, List, [], length, map, refl, sym, ap, ap₂, subst, arith}
 use Rattle.std.proofs.lemmas.Result.{IfOk-from_err}
 use Rattle.cyclo_points.specs.declared.point.Point.{Point}
 use Rattle.rule_model.specs.Tiling.{tiling_of}
@@ -15,6 +15,7 @@ use Rattle.theory_walks.proofs.Brought.{Brings, brought}
 use Rattle.window_cover.specs.SearchLaws.{HasSearchLaws}
 use Rattle.theory_walks.proofs.Outcomes.{if_err-is}
 use Rattle.window_cover.proofs.Outcomes.{no_memory-on}
+use Rattle.window_cover.proofs.HandedOn.{came_to}
 use Rattle.window_cover.proofs.StartState.{kind_exists, edges_new, right-first, one_tile, its_window}
 use Rattle.window_cover.proofs.StartLimits.{not_beyond_start, answered_first, cause_first}
 use Rattle.window_cover.specs.Packed.{packed, unpacked}
@@ -44,9 +45,6 @@ contain-requires-clause-frame c = c.requires.frame
 pub contain-requires-clause-point_within : goal.contain-requires-clause-point_within
 contain-requires-clause-point_within c = c.requires.window_fits.centre_within
 
-pub returns-in_err-tile-clause-frame : goal.returns-in_err-tile-clause-frame
-returns-in_err-tile-clause-frame c = c.contain.ensures.frame
-
 pub returns-in_err-tile-clause-right : goal.returns-in_err-tile-clause-right
 returns-in_err-tile-clause-right c = IfOk-from_err c.from_residual.result _ c.from_residual.ensures.0
 
@@ -56,12 +54,6 @@ returns-in_err-tile-clause-begun c = IfOk-from_err c.from_residual.result _ c.fr
 pub returns-in_err-tile-clause-one_tile : goal.returns-in_err-tile-clause-one_tile
 returns-in_err-tile-clause-one_tile c = IfOk-from_err c.from_residual.result _ c.from_residual.ensures.0
 
-pub returns-in_err-tile-clause-not_beyond : goal.returns-in_err-tile-clause-not_beyond
-returns-in_err-tile-clause-not_beyond c = not_beyond (goal.at.returns-in_err-tile-clause-not_beyond c).After-contain
-
-pub returns-in_err-admit-clause-frame : goal.returns-in_err-admit-clause-frame
-returns-in_err-admit-clause-frame c = c.contain.ensures.frame
-
 pub returns-in_err-admit-clause-right : goal.returns-in_err-admit-clause-right
 returns-in_err-admit-clause-right c = IfOk-from_err c.from_residual-in_err-admit.result _ c.from_residual-in_err-admit.ensures.0
 
@@ -70,62 +62,6 @@ returns-in_err-admit-clause-begun c = IfOk-from_err c.from_residual-in_err-admit
 
 pub returns-in_err-admit-clause-one_tile : goal.returns-in_err-admit-clause-one_tile
 returns-in_err-admit-clause-one_tile c = IfOk-from_err c.from_residual-in_err-admit.result _ c.from_residual-in_err-admit.ensures.0
-
-pub returns-in_err-admit-clause-not_beyond : goal.returns-in_err-admit-clause-not_beyond
-returns-in_err-admit-clause-not_beyond c = not_beyond (goal.at.returns-in_err-admit-clause-not_beyond c).After-contain
-
-pub returns-in_err-tile-clause-answered : goal.returns-in_err-tile-clause-answered
-returns-in_err-tile-clause-answered c = λ within. let e = c.in_err-tile.ensures.found_exactly.1 within.centre_found in cc (e)
-
-pub returns-in_err-tile-clause-cause : goal.returns-in_err-tile-clause-cause
-returns-in_err-tile-clause-cause c = if_err-is
-    (HasCoverCause (tiling_of c.args.machine.now) c.args.frame.now c.contain.new.self c.args.window.now)
-    c.from_residual.result (CoordLimit c.in_err-tile.field-0.0.value) c.from_residual.ensures.1
-    (inl (record {
-      is_first = c.in_err-tile.ensures.limit.first;
-      value_in_order = c.in_err-tile.ensures.limit.in_order;
-    }))
-
-pub returns-in_err-admit-clause-answered : goal.returns-in_err-admit-clause-answered
-returns-in_err-admit-clause-answered c =
-    let m = c.args.machine.now in
-    let f = c.args.frame.now in
-    let k = c.contain.new.self in
-    let w = c.args.window.now in
-    let B = brings (goal.at.returns-in_err-admit-clause-answered c).After-contain in
-    let tile = c.in_ok-tile.tile in
-    let c0 : Working = record {
-      window = w;
-      found = found_in c.new-2.result.items c.new.result.items;
-      border = map packed (map unpacked c.new-3.result);
-    } in
-    let none : length c0.found ≡ 0 = ap (λ xs. length (found_in c.new-2.result.items xs)) c.new.ensures.items in
-    λ within. no_memory-on c.admit.result c.from_residual-in_err-admit.result c.in_err-admit.field-0.0
-    c.in_err-admit.was c.from_residual-in_err-admit.ensures.1
-    (answered_first m B.settled B.fits B.laws f c.requires.frame k c.contain.ensures.frame w
-    c.requires.window_fits c.contain.ensures.least tile c.in_ok-tile.ensures.stands
-    c.in_ok-tile.ensures.only_tile c0 none within c.admit.result c.admit.ensures.cause)
-
-pub returns-in_err-admit-clause-cause : goal.returns-in_err-admit-clause-cause
-returns-in_err-admit-clause-cause c =
-    let m = c.args.machine.now in
-    let t = tiling_of m in
-    let f = c.args.frame.now in
-    let k = c.contain.new.self in
-    let w = c.args.window.now in
-    let B = brings (goal.at.returns-in_err-admit-clause-cause c).After-contain in
-    let tile = c.in_ok-tile.tile in
-    let c0 : Working = record {
-      window = w;
-      found = found_in c.new-2.result.items c.new.result.items;
-      border = map packed (map unpacked c.new-3.result);
-    } in
-    let none : length c0.found ≡ 0 = ap (λ xs. length (found_in c.new-2.result.items xs)) c.new.ensures.items in
-    if_err-is (HasCoverCause t f k w) c.from_residual-in_err-admit.result c.in_err-admit.field-0.0
-    c.from_residual-in_err-admit.ensures.1 (cause_first m B.settled B.fits B.laws f c.requires.frame k
-    c.contain.ensures.frame w c.requires.window_fits c.contain.ensures.least tile
-    c.in_ok-tile.ensures.stands c.in_ok-tile.ensures.only_tile c0 none c.in_err-admit.field-0.0
-    c.in_err-admit.ensures.cause)
 
 pub invariant_of-cover : goal.invariant_of-cover
 invariant_of-cover c =
@@ -175,9 +111,6 @@ admit-requires-clause-new c =
     (edges_new m B.settled B.fits B.laws f c.requires.frame k c.contain.ensures.frame w
     c.requires.window_fits tile c.in_ok-tile.ensures.stands c.in_ok-tile.ensures.only_tile
     c.contain.ensures.least)
-
-pub returns-clause-frame : goal.returns-clause-frame
-returns-clause-frame c = c.contain.ensures.frame
 
 pub returns-clause-right : goal.returns-clause-right
 returns-clause-right c =
@@ -252,8 +185,47 @@ returns-clause-one_tile c =
     tile c.in_ok-tile.ensures.stands c.in_ok-tile.ensures.only_tile c.contain.ensures.least c0
     (working c.admit.new.self) empty c.in_ok-admit.ensures.admitted
 
-pub returns-clause-not_beyond : goal.returns-clause-not_beyond
-returns-clause-not_beyond c = not_beyond (goal.at.returns-clause-not_beyond c).After-contain
+-- ---- how it ends
+pub returns-in_err-tile-clause-ends : goal.returns-in_err-tile-clause-ends
+returns-in_err-tile-clause-ends c = record {
+  frame = c.contain.ensures.frame;
+  not_beyond = not_beyond (goal.at.returns-in_err-tile-clause-ends c).After-contain;
+  answered = λ within. let e = c.in_err-tile.ensures.found_exactly.1 within.centre_found in cc (e);
+  cause = if_err-is (HasCoverCause (tiling_of c.args.machine.now) c.args.frame.now c.contain.new.self c.args.window.now)
+      c.from_residual.result (CoordLimit c.in_err-tile.field-0.0.value) c.from_residual.ensures.1
+      (inl (record { is_first = c.in_err-tile.ensures.limit.first; value_in_order = c.in_err-tile.ensures.limit.in_order }));
+}
 
-pub returns-clause-answered : goal.returns-clause-answered
-returns-clause-answered c = λ within. inr refl
+pub returns-in_err-admit-clause-ends : goal.returns-in_err-admit-clause-ends
+returns-in_err-admit-clause-ends c =
+    let m = c.args.machine.now in
+    let f = c.args.frame.now in
+    let k = c.contain.new.self in
+    let w = c.args.window.now in
+    let B = brings (goal.at.returns-in_err-admit-clause-ends c).After-contain in
+    let tile = c.in_ok-tile.tile in
+    let fault = c.in_err-admit.field-0.0 in
+    let c0 : Working = record {
+      window = w;
+      found = found_in c.new-2.result.items c.new.result.items;
+      border = map packed (map unpacked c.new-3.result);
+    } in
+    let none : length c0.found ≡ 0 = ap (λ xs. length (found_in c.new-2.result.items xs)) c.new.ensures.items in
+    record {
+      frame = c.contain.ensures.frame;
+      not_beyond = not_beyond (goal.at.returns-in_err-admit-clause-ends c).After-contain;
+      answered = λ within. no_memory-on c.admit.result c.from_residual-in_err-admit.result fault
+          c.in_err-admit.was c.from_residual-in_err-admit.ensures.1
+          (answered_first m B.settled B.fits B.laws f c.requires.frame k c.contain.ensures.frame w
+          c.requires.window_fits c.contain.ensures.least tile c.in_ok-tile.ensures.stands
+          c.in_ok-tile.ensures.only_tile c0 none within c.admit.result c.admit.ensures.cause);
+      cause = if_err-is (HasCoverCause (tiling_of m) f k w) c.from_residual-in_err-admit.result fault
+          c.from_residual-in_err-admit.ensures.1
+          (cause_first m B.settled B.fits B.laws f c.requires.frame k c.contain.ensures.frame w c.requires.window_fits
+          c.contain.ensures.least tile c.in_ok-tile.ensures.stands c.in_ok-tile.ensures.only_tile c0 none fault
+          c.in_err-admit.ensures.cause);
+    }
+
+pub returns-clause-ends : goal.returns-clause-ends
+returns-clause-ends c = came_to (tiling_of c.args.machine.now) c.args.frame.now c.contain.new.self c.args.window.now c.admit.new.self
+    c.contain.ensures.frame (not_beyond (goal.at.returns-clause-ends c).After-contain)

@@ -1,4 +1,4 @@
-use Rattle.std.proofs.Common.{◌≡◌, [], ◌+◌, ◌-◌, ◌/◌, ◌<◌, ◌≤◌, ℕ, length, arith, sym, ◌∙◌}
+use Rattle.std.proofs.Common.{[], ◌+◌, ◌-◌, ◌/◌, ◌<◌, ℕ, length, arith, ◌∙◌}
 use Rattle.tile_place.specs.declared.placed_tile.PlacedTile.{PlacedTile}
 use Rattle.window_cover.specs.Covered.{none, placed_as}
 use Rattle.window_cover.proofs.Bisected.{read-at, higher, lower, is-there, none-there}

@@ -6,11 +6,13 @@ use Rattle.tile_shape.specs.declared.step.Step.{Step}
 use Rattle.tile_shape.specs.Views.{step_of}
 use Rattle.window_cover.specs.Covered.{tiles_of}
 use Rattle.window_cover.specs.Gathering.{gathered}
+use Rattle.window_cover.specs.InKeyOrder.{numbers_in_order}
 use Rattle.window_cover.specs.Lifted.{CanBeLifted}
 use Rattle.window_cover.specs.Runs.{seen}
-use Rattle.window_cover.specs.Words.{tile_number}
 use Rattle.window_cover.proofs.Arranged.{IsArranged, arranged-fit}
+use Rattle.window_cover.proofs.InKeyOrder.{numbers-ordered}
 use Rattle.window_cover.proofs.Outcomes.{on_ok-is}
+use Rattle.window_cover.proofs.RunTiles.{runs-keyed}
 use Rattle.window_cover.proofs.runs.Runs.arranged.Goals.{After-try_extend_from_slice}
 use Rattle.window_cover.proofs.runs.Runs.arranged.Goals as goal
 
@@ -28,13 +30,12 @@ same-digits c =
     ap (map step_of) put ∙ c.digits.ensures
 
 is_arranged : (c : After-try_extend_from_slice)
-    → IsArranged c.args.frame.now (gathered c.args.self) (seen c.args.self)
-    (map tile_number c.in_ok-words.words.items) (above c)
+    → IsArranged c.args.frame.now (gathered c.args.self) (seen c.args.self) (numbers_in_order (seen c.args.self)) (above c)
 is_arranged c = record {
   seen = refl;
   can_be_lifted = recursion_from_All (CanBeLifted c.args.frame.now) (seen c.args.self) c.requires.no_deeper;
-  keyed = c.ordered.ensures.keyed;
-  ordered = c.in_ok-words.ensures.ordered;
+  keyed = runs-keyed c.args.self c.requires.runs;
+  ordered = numbers-ordered (seen c.args.self);
   same = same-digits c;
 }
 
@@ -43,14 +44,14 @@ invariant_of-result c =
     record {
       runs = c.requires.runs;
       covered = arranged-fit c.args.frame.now (gathered c.args.self) (seen c.args.self)
-          (map tile_number c.in_ok-words.words.items) (above c) (is_arranged c);
+          (numbers_in_order (seen c.args.self)) (above c) (is_arranged c);
     }
 
 pub returns : goal.returns
 returns c =
     record {
-      keyed = c.ordered.ensures.keyed;
-      numbers = map tile_number c.in_ok-words.words.items;
-      ordered = c.in_ok-words.ensures.ordered;
-      are = ap (λ ds. tiles_of ds (seen c.args.self) (map tile_number c.in_ok-words.words.items)) (same-digits c);
+      keyed = runs-keyed c.args.self c.requires.runs;
+      numbers = numbers_in_order (seen c.args.self);
+      ordered = numbers-ordered (seen c.args.self);
+      are = ap (λ ds. tiles_of ds (seen c.args.self) (numbers_in_order (seen c.args.self))) (same-digits c);
     }
