@@ -33,7 +33,7 @@ expect 'tiling a' 'atlas'
 expect 'tiling pl' 'place'
 expect 'tiling draw rule=p3 a' 'addr at'
 expect 'tiling place rule=ha' 'halfhex'
-expect 'tiling board p3 --t' '--tiles --to'
+expect 'tiling board p3 --t' '--tile --tiles --to'
 expect 'tiling board p3 --to c' 'csv'
 expect 'tiling atlas ' 'FILES ab chair halfhex p2 p3'
 exit $fault

@@ -31,7 +31,7 @@ _tiling_keys() {
 _tiling_options() {
     local frame='--at --seed --addr --out --help'
     case $1 in
-    board) echo "--tiles --half --shape --halves --by --to $frame" ;;
+    board) echo "--tiles --half --shape --halves --by --colours --to --tile $frame" ;;
     poster) echo "--size --tile --by --colours --line --joined --cut --star --jobs --halves --to $frame" ;;
     explore) echo '--at --seed --addr --print --help' ;;
     atlas) echo "$frame" ;;
@@ -58,7 +58,7 @@ _tiling() {
     board | poster | explore | atlas)
         compopt +o nospace -o filenames 2> /dev/null
         case $before in
-        --to) COMPREPLY=($(compgen -W "$([ "$command" = board ] && echo json csv svg npz || echo svg dxf)" -- "$word")) ;;
+        --to) COMPREPLY=($(compgen -W "$([ "$command" = board ] && echo json csv svg npz dxf || echo svg dxf)" -- "$word")) ;;
         --by) COMPREPLY=($(compgen -W "kind turn neighbours $([ "$command" = board ] && echo child || echo star ring)" -- "$word")) ;;
         --shape) COMPREPLY=($(compgen -W 'round rectangle nearest' -- "$word")) ;;
         *)

@@ -9,7 +9,7 @@ _tiling() {
     values=(rule 'chair p2 p3 ab halfhex -' glue 'yes no' layers 'svg list census svg,list list,census svg,list,census'
         at '0,0,0,0' half '20,12' addr '0: 1: 2: 3:')
     local frame='--at --seed --addr --out --help'
-    options=(board "--tiles --half --shape --halves --by --to $frame"
+    options=(board "--tiles --half --shape --halves --by --colours --to --tile $frame"
         poster "--size --tile --by --colours --line --joined --cut --star --jobs --halves --to $frame"
         explore '--at --seed --addr --print --help' atlas $frame rules --help)
     local -a names=(
@@ -27,7 +27,7 @@ _tiling() {
     local command=$words[2]
     if ((${+options[$command]})); then
         case $words[CURRENT-1] in
-        --to) [[ $command == board ]] && compadd json csv svg npz || compadd svg dxf ;;
+        --to) [[ $command == board ]] && compadd json csv svg npz dxf || compadd svg dxf ;;
         --by) compadd kind turn neighbours; [[ $command == board ]] && compadd child || compadd star ring ;;
         --shape) compadd round rectangle nearest ;;
         *)
